@@ -1,0 +1,4 @@
+pub mod Arrays
+pub mod Steps
+pub mod Chains
+pub mod Replaying

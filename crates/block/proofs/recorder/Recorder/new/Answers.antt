@@ -1,0 +1,12 @@
+use mathlib.Core.Path.{refl}
+use Rattle.block.proofs.Steps.{new-meaning, handles-made}
+use Rattle.block.proofs.recorder.Recorder.new.Needs as need
+
+pub returns : need.returns
+returns c = record {
+  block = new-meaning _ _ _ (c .chip-chip .ensures) (c .new-words-words .ensures);
+  list = refl;
+  lent = refl;
+  puts = refl;
+  handles = handles-made _ _ _ (c .chip-chip .ensures) (c .new .ensures);
+}

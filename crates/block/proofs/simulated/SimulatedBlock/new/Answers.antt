@@ -1,0 +1,10 @@
+use mathlib.Core.Path.{refl}
+use Rattle.block.proofs.Steps.{new-meaning, handles-made}
+use Rattle.block.proofs.simulated.SimulatedBlock.new.Needs as need
+
+pub returns : need.returns
+returns c = record {
+  block = new-meaning _ _ _ (c .chip-chip .ensures) (c .new-words-words .ensures);
+  comparators = refl;
+  handles = handles-made _ _ _ (c .chip-chip .ensures) (c .new .ensures);
+}

@@ -1,0 +1,21 @@
+-- The handles that come with a block. Assumes nothing.
+use mathlib.Core.Bool.{cond}
+use lib.Dec.{eqb}
+use Rattle.std.specs.declared.option.Option.{Option}
+use Rattle.std.specs.declared.option.Option.the-variants.{Some, None}
+use Rattle.block.specs.declared.chip.Chip.{Chip}
+use Rattle.block.specs.declared.parts.TimerNumber.the-variants.{Zero, One}
+use Rattle.block.specs.declared.parts.AlarmNumber.the-variants.{Zero as Zero′, One as One′, Two as Two′}
+use Rattle.block.specs.declared.parts.TimerHandle.{TimerHandle}
+use Rattle.block.specs.declared.parts.Handles.{Handles}
+
+-- One handle for each part, each with its own number; timer 1 only where the chip has two timers.
+abbrev pub handles-of : Chip → Handles
+handles-of chip = record {
+  timer0 = record { number = Zero };
+  timer1 = cond (eqb (chip .timers) 2) (Some (record { number = One })) None;
+  alarm0 = record { number = Zero′ };
+  alarm1 = record { number = One′ };
+  alarm2 = record { number = Two′ };
+  watchdog = record { 0 = tt };
+}

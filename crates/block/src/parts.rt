@@ -1,0 +1,92 @@
+// The parts of a block and their handles.
+ghost use mathlib.Core.Path.{_≡_};
+ghost use Rattle.block.specs.Parts.{handles-of};
+use crate::chip::Chip;
+
+// Which of the two group timers.
+#[derive(Clone, Copy)]
+pub enum TimerNumber {
+    Zero,
+    One,
+}
+
+// Which of the three alarms of the system timer.
+#[derive(Clone, Copy)]
+pub enum AlarmNumber {
+    Zero,
+    One,
+    Two,
+}
+
+// The right to use a group timer. Only making a block gives one, and it cannot be copied.
+#[derive(Drop)]
+pub struct TimerHandle {
+    number: TimerNumber,
+}
+
+impl TimerHandle {
+    pub fn number(&self) -> TimerNumber
+        ensures { λ r. ⌜ r ≡ now (self .entry) .number ⌝ }
+    {
+        self.number
+    }
+}
+
+// The right to use an alarm.
+#[derive(Drop)]
+pub struct AlarmHandle {
+    number: AlarmNumber,
+}
+
+impl AlarmHandle {
+    pub fn number(&self) -> AlarmNumber
+        ensures { λ r. ⌜ r ≡ now (self .entry) .number ⌝ }
+    {
+        self.number
+    }
+}
+
+// The right to use the watchdog.
+#[derive(Drop)]
+pub struct WatchdogHandle(());
+
+// One handle for each part of a block; a chip with one timer has none for timer 1.
+#[derive(Drop)]
+pub struct Handles {
+    pub timer0: TimerHandle,
+    pub timer1: Option<TimerHandle>,
+    pub alarm0: AlarmHandle,
+    pub alarm1: AlarmHandle,
+    pub alarm2: AlarmHandle,
+    pub watchdog: WatchdogHandle,
+}
+
+impl Handles {
+    pub(crate) fn new(chip: &Chip) -> Handles
+        ensures { λ r. ⌜ r ≡ handles-of (now (chip .entry)) ⌝ }
+    {
+        let timer1 = if chip.timers == 2 {
+            Some(TimerHandle {
+                number: TimerNumber::One,
+            })
+        } else {
+            None
+        };
+        Handles {
+            timer0: TimerHandle {
+                number: TimerNumber::Zero,
+            },
+            timer1,
+            alarm0: AlarmHandle {
+                number: AlarmNumber::Zero,
+            },
+            alarm1: AlarmHandle {
+                number: AlarmNumber::One,
+            },
+            alarm2: AlarmHandle {
+                number: AlarmNumber::Two,
+            },
+            watchdog: WatchdogHandle(()),
+        }
+    }
+}
