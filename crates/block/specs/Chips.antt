@@ -1,4 +1,5 @@
 -- The limits of a profile and its rates. Assumes nothing.
+use mathlib.Core.Bool.{false}
 use mathlib.Core.Path.{_≡_}
 use Prim.Native.Nat.{ℕ, _*_, _/_, _≤_}
 use lib.Bits.{bitAnd}
@@ -37,3 +38,16 @@ clock-mhz chip = chip .clock / 1000000
 -- The system count's rate in whole MHz: its ticks in a microsecond.
 abbrev pub system-mhz : Chip → ℕ
 system-mhz chip = share (chip .ratio) (chip .crystal) / 1000000
+
+-- The bench unit's chip: 80 MHz, a crystal of 40 MHz with 4/10 of its rate, two timers and no flag.
+abbrev pub bench-chip : Chip
+bench-chip = record {
+  clock = 80000000;
+  crystal = 40000000;
+  ratio = FourTenths;
+  timers = 2;
+  level = false;
+  confirm = false;
+  divcnt = false;
+  reset = record { config = 0x60002000; wdtconfig0 = 0x0004C000; wdtconfig1 = 0x00010000; conf = 0x46000000 };
+}

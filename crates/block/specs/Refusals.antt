@@ -1,6 +1,8 @@
 -- The numbers of the refusals and what each tells. Assumes nothing.
-use mathlib.Core.List.{List, [], _∷_}
+use mathlib.Core.List.{List, [], _∷_, _++_}
 use Prim.Native.Nat.{ℕ}
+use lib.Chars.{codes}
+use Rattle.std.specs.Written.{decimal}
 use Rattle.std.specs.declared.result.Result.{Result}
 use Rattle.std.specs.declared.result.Result.the-variants.{Ok, Err}
 use Rattle.block.specs.declared.error.Error.{Error}
@@ -22,6 +24,12 @@ abbrev pub values-of : Error → List ℕ
 values-of BadProfile = []
 values-of (BadRecord index) = index ∷ []
 values-of (BadLength records) = records ∷ []
+
+-- A refusal as text: its number, and the value that it tells.
+abbrev pub error-text : Error → List ℕ
+error-text BadProfile = codes "refused " ++ decimal 5
+error-text (BadRecord index) = codes "refused " ++ (decimal 7 ++ (codes " at " ++ decimal index))
+error-text (BadLength records) = codes "refused " ++ (decimal 8 ++ (codes " at " ++ decimal records))
 
 -- A refusal with its number and values.
 abbrev pub refusal : Error → Outcome

@@ -1,5 +1,6 @@
 // The register block of the timers, the alarms and the watchdog.
 pub mod access;
+pub mod bits;
 pub mod chip;
 pub mod error;
 pub mod parts;

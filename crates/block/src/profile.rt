@@ -1,10 +1,12 @@
 // A chip whose figures lie within the limits.
-ghost use Rattle.block.specs.Chips.{Rates, Timers, Resets, Valid};
+ghost use Rattle.block.specs.Chips.{Rates, Timers, Resets, Valid, bench-chip};
 ghost use Rattle.block.specs.Refusals.{Refused, refusal};
 ghost use mathlib.Core.Path.{_≡_};
 ghost use mathlib.Core.List.{[]};
 ghost use Rattle.std.specs.declared.result.Result.the-variants.{Ok, Err};
 use crate::chip::Chip;
+use crate::chip::Ratio;
+use crate::chip::ResetWords;
 use crate::error::Error;
 
 // bits 31 and 11 of CONFIG: EN and LEVEL_INT_EN
@@ -43,6 +45,29 @@ impl Profile {
             return Err(Error::BadProfile);
         }
         Ok(Profile { chip })
+    }
+
+    // The chip that the bench unit plays where nothing else is asked for.
+    pub fn bench() -> Profile
+        ensures { λ r. ⌜ r .chip ≡ bench-chip ⌝ }
+    {
+        Profile {
+            chip: Chip {
+                clock: 80_000_000,
+                crystal: 40_000_000,
+                ratio: Ratio::FourTenths,
+                timers: 2,
+                level: false,
+                confirm: false,
+                divcnt: false,
+                reset: ResetWords {
+                    config: 0x6000_2000,
+                    wdtconfig0: 0x0004_C000,
+                    wdtconfig1: 0x0001_0000,
+                    conf: 0x4600_0000,
+                },
+            },
+        }
     }
 
     pub fn chip(&self) -> Chip

@@ -1,12 +1,13 @@
 // The words of a block, and what a put leaves in them: one implementation for every block.
 ghost use mathlib.Core.Path.{_≡_};
-ghost use lib.ListN.{length};
-ghost use Rattle.block.specs.Places.{place-count};
+ghost use lib.ListN.{length, getD};
+ghost use Rattle.block.specs.Places.{place-count, watchdog-place};
 ghost use Rattle.block.specs.Puts.{rule-of, loaded, guarded, without, by-rule, stored};
 ghost use Rattle.block.specs.Accesses.{new-words};
 use crate::chip::Chip;
 use crate::parts::TimerNumber;
 use crate::place::Place;
+use crate::registers::WatchdogRegister;
 
 pub const PLACES: usize = 49;
 
@@ -150,4 +151,18 @@ pub(crate) fn copy(words: &[u32; 49]) -> [u32; 49]
     ensures sized { λ _. ⌜ length (now (words .entry)) ≡ place-count ⌝ }
 {
     *words
+}
+
+// The word at a place of the words that `Block::words` gives.
+pub fn word_at(words: &[u32; 49], at: Place) -> u32
+    ensures { λ r. ⌜ r ≡ getD (now (words .entry)) (at .index) 0 ⌝ }
+{
+    words[at.index() as usize]
+}
+
+// A watchdog's word there: to read it, its protection need not be open.
+pub fn watchdog_word(words: &[u32; 49], register: WatchdogRegister) -> u32
+    ensures { λ r. ⌜ r ≡ getD (now (words .entry)) (watchdog-place register) 0 ⌝ }
+{
+    word_at(words, Place::watchdog(register))
 }

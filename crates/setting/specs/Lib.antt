@@ -1,0 +1,5 @@
+pub mod Timings
+pub mod Watchdogs
+pub mod Readouts
+pub mod Verdicts
+pub mod Texts

@@ -1,0 +1,5 @@
+// What the parts of a block are set to.
+pub mod kinds;
+pub mod readout;
+pub mod text;
+pub mod verdict;
