@@ -10,7 +10,7 @@ use lib.ListN.{length, take, drop, length-drop}
 use lib.Seq.{take-all}
 use Rattle.block.specs.Places.{place-count}
 use Rattle.block.specs.Accesses.{Access}
-use Rattle.block.specs.Refusals.{Accepted, Refused}
+use Rattle.base.specs.Refusals.{Accepted, Refused}
 use Rattle.block.specs.Replays.{most-records, is-record, good, put-of, puts-of, good-records, replay-puts, replay-outcome}
 
 first : (x y : Bool) → (x && y) ≡ true → x ≡ true

@@ -12,7 +12,7 @@ use Rattle.block.specs.Model.{whole}
 use Rattle.block.specs.Records.{counted, noted, puts-after, list-after, recorder-means, Recorded}
 use Rattle.block.specs.Comparators.{comparators-put, comparators-after, Simulated}
 use Rattle.block.proofs.Arrays.{whole-is}
-use Rattle.block.specs.declared.chip.Chip.{Chip}
+use Rattle.base.specs.declared.chip.Chip.{Chip}
 use Rattle.block.specs.declared.parts.Handles.{Handles}
 use Rattle.block.specs.declared.recorder.Recorder.{Recorder}
 use Rattle.block.specs.declared.simulated.Comparator.{Comparator}

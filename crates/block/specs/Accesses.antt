@@ -3,7 +3,7 @@ use mathlib.Core.List.{List, [], _∷_, _++_}
 use Prim.Native.Nat.{ℕ}
 use lib.ListN.{replicate}
 use Rattle.block.specs.Puts.{stored}
-use Rattle.block.specs.declared.chip.Chip.{Chip}
+use Rattle.base.specs.declared.chip.Chip.{Chip}
 
 -- A block means its chip and its words, by place.
 pub record Meaning : Type 0 where

@@ -8,9 +8,9 @@ use lib.ListN.{set}
 use Rattle.block.specs.Places.{alarm-place, group-place}
 use Rattle.block.specs.Accesses.{Access, Get, Put, Meaning, after}
 use Rattle.block.specs.Model.{whole}
-use Rattle.block.specs.declared.parts.AlarmNumber.the-variants.{Zero}
-use Rattle.block.specs.declared.registers.AlarmRegister.the-variants.{CompLoad}
-use Rattle.block.specs.declared.registers.GroupRegister.the-variants.{Valid}
+use Rattle.base.specs.declared.numbers.AlarmNumber.the-variants.{Zero}
+use Rattle.base.specs.declared.registers.AlarmRegister.the-variants.{CompLoad}
+use Rattle.base.specs.declared.registers.GroupRegister.the-variants.{Valid}
 use Rattle.block.specs.declared.simulated.Comparator.{Comparator}
 use Rattle.block.specs.declared.simulated.SimulatedBlock.{SimulatedBlock}
 

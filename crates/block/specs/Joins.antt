@@ -9,7 +9,7 @@ use Rattle.block.specs.Accesses.{Access, Get, Put, Meaning, stepped, words-aft
 use Rattle.block.specs.Model.{Model, whole}
 use Rattle.block.specs.Records.{counted, noted, puts-after, list-after, recorder-means, Recorded}
 use Rattle.block.specs.Comparators.{comparators-put, comparators-after, simulated-means, Simulated}
-use Rattle.block.specs.declared.chip.Chip.{Chip}
+use Rattle.base.specs.declared.chip.Chip.{Chip}
 use Rattle.block.specs.declared.recorder.Recorder.{Recorder}
 use Rattle.block.specs.declared.simulated.Comparator.{Comparator}
 use Rattle.block.specs.declared.simulated.SimulatedBlock.{SimulatedBlock}

@@ -1,12 +1,9 @@
-pub mod Bits
 pub mod Places
-pub mod Chips
 pub mod Parts
 pub mod Puts
 pub mod Accesses
 pub mod Model
 pub mod Records
 pub mod Comparators
-pub mod Refusals
 pub mod Replays
 pub mod Joins

@@ -1,34 +1,22 @@
 -- The places of a block by the names of their registers. Assumes nothing.
 use Prim.Native.Nat.{ℕ, _+_, _*_}
-use Rattle.block.specs.declared.parts.TimerNumber.{TimerNumber}
-use Rattle.block.specs.declared.parts.TimerNumber.the-variants.{Zero, One}
-use Rattle.block.specs.declared.parts.AlarmNumber.{AlarmNumber}
-use Rattle.block.specs.declared.parts.AlarmNumber.the-variants.{Zero as Zero′, One as One′, Two as Two′}
-use Rattle.block.specs.declared.registers.TimerRegister.{TimerRegister}
-use Rattle.block.specs.declared.registers.TimerRegister.the-variants.{Config, Lo, Hi, Update, AlarmLo, AlarmHi, LoadLo, LoadHi, Load}
-use Rattle.block.specs.declared.registers.GroupRegister.{GroupRegister}
-use Rattle.block.specs.declared.registers.GroupRegister.the-variants.{IntEna, IntRaw, IntClr, Valid}
-use Rattle.block.specs.declared.registers.SystemRegister.{SystemRegister}
-use Rattle.block.specs.declared.registers.SystemRegister.the-variants.{Conf, Unit0Hi, Unit0Lo, Unit0Op, IntEna as SysIntEna, IntRaw as SysIntRaw, IntClr as SysIntClr}
-use Rattle.block.specs.declared.registers.AlarmRegister.{AlarmRegister}
-use Rattle.block.specs.declared.registers.AlarmRegister.the-variants.{TargetHi, TargetLo, TargetConf, CompLoad}
-use Rattle.block.specs.declared.registers.WatchdogRegister.{WatchdogRegister}
-use Rattle.block.specs.declared.registers.WatchdogRegister.the-variants.{Config0, Config1, Config2, Config3, Config4, Config5, Feed}
+use Rattle.base.specs.Numbers.{timer-number, alarm-number}
+use Rattle.base.specs.declared.numbers.TimerNumber.{TimerNumber}
+use Rattle.base.specs.declared.numbers.AlarmNumber.{AlarmNumber}
+use Rattle.base.specs.declared.registers.TimerRegister.{TimerRegister}
+use Rattle.base.specs.declared.registers.TimerRegister.the-variants.{Config, Lo, Hi, Update, AlarmLo, AlarmHi, LoadLo, LoadHi, Load}
+use Rattle.base.specs.declared.registers.GroupRegister.{GroupRegister}
+use Rattle.base.specs.declared.registers.GroupRegister.the-variants.{IntEna, IntRaw, IntClr, Valid}
+use Rattle.base.specs.declared.registers.SystemRegister.{SystemRegister}
+use Rattle.base.specs.declared.registers.SystemRegister.the-variants.{Conf, Unit0Hi, Unit0Lo, Unit0Op, IntEna as SysIntEna, IntRaw as SysIntRaw, IntClr as SysIntClr}
+use Rattle.base.specs.declared.registers.AlarmRegister.{AlarmRegister}
+use Rattle.base.specs.declared.registers.AlarmRegister.the-variants.{TargetHi, TargetLo, TargetConf, CompLoad}
+use Rattle.base.specs.declared.registers.WatchdogRegister.{WatchdogRegister}
+use Rattle.base.specs.declared.registers.WatchdogRegister.the-variants.{Config0, Config1, Config2, Config3, Config4, Config5, Feed}
 
 -- A block has this many words.
 abbrev pub place-count : ℕ
 place-count = 49
-
--- The number of a group timer.
-abbrev pub timer-number : TimerNumber → ℕ
-timer-number Zero = 0
-timer-number One = 1
-
--- The number of an alarm.
-abbrev pub alarm-number : AlarmNumber → ℕ
-alarm-number Zero′ = 0
-alarm-number One′ = 1
-alarm-number Two′ = 2
 
 -- The nine registers of a group timer, in their order.
 abbrev pub timer-offset : TimerRegister → ℕ

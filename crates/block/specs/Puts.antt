@@ -6,12 +6,12 @@ use lib.Dec.{eqb}
 use lib.ListN.{getD, set}
 use lib.Bits.{bitAnd, bitXor}
 use Rattle.block.specs.Places.{timer-place, group-place, system-place, watchdog-place, protection-place}
-use Rattle.block.specs.declared.chip.Chip.{Chip}
-use Rattle.block.specs.declared.parts.TimerNumber.{TimerNumber}
-use Rattle.block.specs.declared.parts.TimerNumber.the-variants.{Zero, One}
-use Rattle.block.specs.declared.registers.TimerRegister.the-variants.{Lo, Hi, LoadLo, LoadHi}
-use Rattle.block.specs.declared.registers.GroupRegister.the-variants.{IntRaw}
-use Rattle.block.specs.declared.registers.SystemRegister.the-variants.{IntRaw as SysIntRaw}
+use Rattle.base.specs.declared.chip.Chip.{Chip}
+use Rattle.base.specs.declared.numbers.TimerNumber.{TimerNumber}
+use Rattle.base.specs.declared.numbers.TimerNumber.the-variants.{Zero, One}
+use Rattle.base.specs.declared.registers.TimerRegister.the-variants.{Lo, Hi, LoadLo, LoadHi}
+use Rattle.base.specs.declared.registers.GroupRegister.the-variants.{IntRaw}
+use Rattle.base.specs.declared.registers.SystemRegister.the-variants.{IntRaw as SysIntRaw}
 use Rattle.block.specs.declared.words.PutRule.{PutRule}
 use Rattle.block.specs.declared.words.PutRule.the-variants.{Stores, Ignores, Loads, ClearsGroup, ClearsSystem, Protected, Confirmed, TargetHigh}
 

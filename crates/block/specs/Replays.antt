@@ -6,7 +6,7 @@ use lib.Dec.{eqb, ltb}
 use lib.ListN.{length, getD, drop}
 use Rattle.block.specs.Places.{place-count}
 use Rattle.block.specs.Accesses.{Access, Put}
-use Rattle.block.specs.Refusals.{Outcome, Accepted, Refused}
+use Rattle.base.specs.Refusals.{Outcome, Accepted, Refused}
 
 -- The longest list that is read has 8,192 records.
 abbrev pub most-records : ℕ

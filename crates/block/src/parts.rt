@@ -1,24 +1,11 @@
 // The parts of a block and their handles.
 ghost use mathlib.Core.Path.{_≡_};
 ghost use Rattle.block.specs.Parts.{handles-of};
-use crate::chip::Chip;
+use base::chip::Chip;
+use base::numbers::AlarmNumber;
+use base::numbers::TimerNumber;
 
-// Which of the two group timers.
-#[derive(Clone, Copy)]
-pub enum TimerNumber {
-    Zero,
-    One,
-}
-
-// Which of the three alarms of the system timer.
-#[derive(Clone, Copy)]
-pub enum AlarmNumber {
-    Zero,
-    One,
-    Two,
-}
-
-// The right to use a group timer. Only making a block gives one, and it cannot be copied.
+/// The right to use a group timer. Only making a block gives one, and it cannot be copied.
 #[derive(Drop)]
 pub struct TimerHandle {
     number: TimerNumber,
@@ -32,7 +19,7 @@ impl TimerHandle {
     }
 }
 
-// The right to use an alarm.
+/// The right to use an alarm.
 #[derive(Drop)]
 pub struct AlarmHandle {
     number: AlarmNumber,
@@ -46,11 +33,11 @@ impl AlarmHandle {
     }
 }
 
-// The right to use the watchdog.
+/// The right to use the watchdog.
 #[derive(Drop)]
 pub struct WatchdogHandle(());
 
-// One handle for each part of a block; a chip with one timer has none for timer 1.
+/// One handle for each part of a block; a chip with one timer has none for timer 1.
 #[derive(Drop)]
 pub struct Handles {
     pub timer0: TimerHandle,

@@ -2,15 +2,15 @@
 ghost use mathlib.Core.Path.{_≡_};
 ghost use Prim.Native.Nat.{_<_};
 ghost use Rattle.block.specs.Places.{place-count, timer-place, group-place, system-place, alarm-place, watchdog-place};
-use crate::parts::AlarmNumber;
-use crate::parts::TimerNumber;
-use crate::registers::AlarmRegister;
-use crate::registers::GroupRegister;
-use crate::registers::SystemRegister;
-use crate::registers::TimerRegister;
-use crate::registers::WatchdogRegister;
+use base::numbers::AlarmNumber;
+use base::numbers::TimerNumber;
+use base::registers::AlarmRegister;
+use base::registers::GroupRegister;
+use base::registers::SystemRegister;
+use base::registers::TimerRegister;
+use base::registers::WatchdogRegister;
 
-// Outside this crate no watchdog register and not its protection word can be made.
+/// Outside this crate no watchdog register and not its protection word can be made.
 #[derive(Clone, Copy)]
 pub struct Place {
     index: u8,
@@ -100,14 +100,14 @@ impl Place {
         Place { index }
     }
 
-    // The place WDTWPROTECT.
+    /// The place WDTWPROTECT.
     pub(crate) fn protection() -> Place
         ensures { λ r. ⌜ r .index ≡ 25 ⌝ }
     {
         Place { index: 25 }
     }
 
-    // Any place, protected ones too.
+    /// Any place, protected ones too.
     pub(crate) fn at(index: u8) -> Place
         requires { ⌜ index < place-count ⌝ }
         ensures { λ r. ⌜ r .index ≡ index ⌝ }
@@ -115,7 +115,7 @@ impl Place {
         Place { index }
     }
 
-    // The place's number in a write list.
+    /// The place's number in a write list.
     pub fn index(self) -> u8
         ensures value { λ r. ⌜ r ≡ self .index ⌝ }
         ensures within { λ r. ⌜ r < place-count ⌝ }

@@ -9,13 +9,16 @@ ghost use Rattle.block.specs.Parts.{handles-of};
 ghost use Rattle.block.specs.Records.{record-bytes, noted, recorder-means};
 ghost use Rattle.block.specs.Joins.{recorder-model};
 use crate::access::Block;
-use crate::chip::Chip;
 use crate::parts::Handles;
 use crate::place::Place;
-use crate::profile::Profile;
 use crate::words::copy;
 use crate::words::new_words;
 use crate::words::store;
+use base::chip::Chip;
+use base::profile::Profile;
+
+#[cfg(test)]
+mod tests;
 
 #[derive(Drop)]
 pub struct Recorder<'a> {
@@ -45,7 +48,7 @@ fn note(list: &mut [u8], puts: u64, at: Place, word: u32)
 }
 
 impl<'a> Recorder<'a> {
-    // A new block of the profile over the caller's list, with the handles of its parts.
+    /// A new block of the profile over the caller's list, with the handles of its parts.
     pub fn new(profile: Profile, list: &'a mut [u8]) -> (Recorder<'a>, Handles)
         ensures block { λ r. ⌜ recorder-means (r .0) ≡ new-block (profile .chip) ⌝ }
         ensures list { λ r. ⌜ held (r .0 .list) ≡ now (list .entry) ⌝ }
@@ -66,7 +69,7 @@ impl<'a> Recorder<'a> {
 }
 
 impl Recorder<'_> {
-    // How many puts there were, whether their records fitted or not.
+    /// How many puts there were, whether their records fitted or not.
     pub fn puts(&self) -> u64
         ensures { λ r. ⌜ r ≡ now (self .entry) .puts ⌝ }
     {

@@ -3,11 +3,11 @@ ghost use mathlib.Core.Path.{_≡_};
 ghost use mathlib.Core.Bool.{true};
 ghost use Prim.Native.Nat.{_<_};
 ghost use Rattle.block.specs.Places.{place-count};
-ghost use Rattle.block.specs.Refusals.{outcome};
+ghost use Rattle.base.specs.Refusals.{outcome};
 ghost use Rattle.block.specs.Replays.{is-record, replay-outcome, replay-puts};
 use crate::access::Block;
-use crate::error::Error;
 use crate::place::Place;
+use base::error::Error;
 
 // The longest write list, in records and in bytes.
 const MOST_RECORDS: usize = 8_192;
@@ -22,8 +22,8 @@ fn is_record(place: u8, f0: u8, f1: u8, f2: u8) -> bool
     (place < 49) & (f0 == 0) & (f1 == 0) & (f2 == 0)
 }
 
-// Puts the records of a list in their order. A list of a wrong length is refused before any put; at a bad record the
-// earlier ones have been put.
+/// Puts the records of a list in their order. A list of a wrong length is refused before any put; at a bad record the
+/// earlier ones have been put.
 pub fn replay<B: Block>(block: &mut B, list: &[u8]) -> Result<(), Error>
     ensures answer { λ r. ⌜ outcome r ≡ replay-outcome (now (list .entry)) ⌝ }
     ensures did { λ _. ⌜ B·Block .model .did (now (block .entry)) (replay-puts (now (list .entry))) (now (block .exit)) ⌝ }

@@ -6,15 +6,15 @@ ghost use Rattle.block.specs.Parts.{handles-of};
 ghost use Rattle.block.specs.Comparators.{zero-phase, comparators-put, simulated-means, with-valid};
 ghost use Rattle.block.specs.Joins.{simulated-model};
 use crate::access::Block;
-use crate::chip::Chip;
 use crate::parts::Handles;
 use crate::place::Place;
-use crate::profile::Profile;
 use crate::words::copy;
 use crate::words::new_words;
 use crate::words::store;
+use base::chip::Chip;
+use base::profile::Profile;
 
-// What an alarm keeps beside its registers: how far it is into its period.
+/// What an alarm keeps beside its registers: how far it is into its period.
 #[derive(Clone, Copy)]
 pub struct Comparator {
     phase: u32,
@@ -43,7 +43,7 @@ fn restart(comparators: &mut [Comparator; 3], at: Place)
 }
 
 impl SimulatedBlock {
-    // A new block of the profile, with the handles of its parts.
+    /// A new block of the profile, with the handles of its parts.
     pub fn new(profile: Profile) -> (SimulatedBlock, Handles)
         ensures block { λ r. ⌜ simulated-means (r .0) ≡ new-block (profile .chip) ⌝ }
         ensures comparators { λ r. ⌜ r .0 .comparators ≡ replicate 3 zero-phase ⌝ }
@@ -60,7 +60,7 @@ impl SimulatedBlock {
         (block, Handles::new(&chip))
     }
 
-    // Says which counts can be read: bit 0 and 1 for the timers' counts, bit 2 for the system count.
+    /// Says which counts can be read: bit 0 and 1 for the timers' counts, bit 2 for the system count.
     pub fn set_valid(&mut self, valid: u32)
         ensures block { λ _. ⌜ simulated-means (now (self .exit)) ≡ with-valid valid (simulated-means (now (self .entry))) ⌝ }
         ensures comparators { λ _. ⌜ now (self .exit) .comparators ≡ now (self .entry) .comparators ⌝ }

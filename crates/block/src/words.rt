@@ -4,31 +4,31 @@ ghost use lib.ListN.{length, getD};
 ghost use Rattle.block.specs.Places.{place-count, watchdog-place};
 ghost use Rattle.block.specs.Puts.{rule-of, loaded, guarded, without, by-rule, stored};
 ghost use Rattle.block.specs.Accesses.{new-words};
-use crate::chip::Chip;
-use crate::parts::TimerNumber;
 use crate::place::Place;
-use crate::registers::WatchdogRegister;
+use base::chip::Chip;
+use base::numbers::TimerNumber;
+use base::registers::WatchdogRegister;
 
 pub const PLACES: usize = 49;
 
-// What a put at a place does.
+/// What a put at a place does.
 #[derive(Clone, Copy)]
 pub enum PutRule {
-    // the word is stored
+    /// the word is stored
     Stores,
-    // nothing is stored
+    /// nothing is stored
     Ignores,
-    // the timer's count is loaded
+    /// the timer's count is loaded
     Loads(TimerNumber),
-    // bits of INT_RAW are cleared
+    /// bits of INT_RAW are cleared
     ClearsGroup,
-    // bits of SYS_INT_RAW are cleared
+    /// bits of SYS_INT_RAW are cleared
     ClearsSystem,
-    // the word is stored while the protection is open
+    /// the word is stored while the protection is open
     Protected,
-    // the same for WDTCONFIG0, whose confirming bit is never kept
+    /// the same for WDTCONFIG0, whose confirming bit is never kept
     Confirmed,
-    // the low 20 bits are stored
+    /// the low 20 bits are stored
     TargetHigh,
 }
 
@@ -124,14 +124,14 @@ fn store_by(rule: PutRule, words: &mut [u32; 49], chip: &Chip, at: Place, word: 
     }
 }
 
-// A put: the words after it, by the rule of its place.
+/// A put: the words after it, by the rule of its place.
 pub(crate) fn store(words: &mut [u32; 49], chip: &Chip, at: Place, word: u32)
     ensures { λ _. ⌜ now (words .exit) ≡ stored (now (chip .entry)) (now (words .entry)) (at .index) word ⌝ }
 {
     store_by(rule_at(at), words, chip, at, word);
 }
 
-// The words of a new block.
+/// The words of a new block.
 pub(crate) fn new_words(chip: &Chip) -> [u32; 49]
     ensures { λ r. ⌜ r ≡ new-words (now (chip .entry)) ⌝ }
 {
@@ -145,7 +145,7 @@ pub(crate) fn new_words(chip: &Chip) -> [u32; 49]
     words
 }
 
-// The words as they are; for the proof, that an array has one for each place.
+/// The words as they are; for the proof, that an array has one for each place.
 pub(crate) fn copy(words: &[u32; 49]) -> [u32; 49]
     ensures value { λ r. ⌜ r ≡ now (words .entry) ⌝ }
     ensures sized { λ _. ⌜ length (now (words .entry)) ≡ place-count ⌝ }
@@ -153,14 +153,14 @@ pub(crate) fn copy(words: &[u32; 49]) -> [u32; 49]
     *words
 }
 
-// The word at a place of the words that `Block::words` gives.
+/// The word at a place of the words that `Block::words` gives.
 pub fn word_at(words: &[u32; 49], at: Place) -> u32
     ensures { λ r. ⌜ r ≡ getD (now (words .entry)) (at .index) 0 ⌝ }
 {
     words[at.index() as usize]
 }
 
-// A watchdog's word there: to read it, its protection need not be open.
+/// A watchdog's word there: to read it, its protection need not be open.
 pub fn watchdog_word(words: &[u32; 49], register: WatchdogRegister) -> u32
     ensures { λ r. ⌜ r ≡ getD (now (words .entry)) (watchdog-place register) 0 ⌝ }
 {

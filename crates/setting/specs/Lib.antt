@@ -1,5 +1,4 @@
 pub mod Timings
 pub mod Watchdogs
 pub mod Readouts
-pub mod Verdicts
 pub mod Texts

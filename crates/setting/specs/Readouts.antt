@@ -3,8 +3,8 @@ use mathlib.Core.Bool.{cond}
 use lib.Dec.{eqb}
 use Rattle.std.specs.declared.option.Option.the-variants.{Some, None}
 use Rattle.block.specs.Accesses.{Meaning}
-use Rattle.block.specs.declared.parts.TimerNumber.the-variants.{Zero, One}
-use Rattle.block.specs.declared.parts.AlarmNumber.the-variants.{Zero as Zero′, One as One′, Two as Two′}
+use Rattle.base.specs.declared.numbers.TimerNumber.the-variants.{Zero, One}
+use Rattle.base.specs.declared.numbers.AlarmNumber.the-variants.{Zero as Zero′, One as One′, Two as Two′}
 use Rattle.setting.specs.Timings.{timer-setting, alarm-setting}
 use Rattle.setting.specs.Watchdogs.{watchdog-setting}
 use Rattle.setting.specs.declared.kinds.Origins.{Origins}

@@ -3,15 +3,16 @@ use mathlib.Core.Bool.{Bool, true, false, cond}
 use mathlib.Core.List.{List}
 use Prim.Native.Nat.{ℕ, _+_, _-_, _*_, _%_, _^_}
 use lib.ListN.{getD}
-use Rattle.block.specs.Bits.{bit, field}
-use Rattle.block.specs.Places.{timer-number, alarm-number, timer-place, alarm-place, group-place, system-place}
-use Rattle.block.specs.declared.chip.Chip.{Chip}
-use Rattle.block.specs.declared.parts.TimerNumber.{TimerNumber}
-use Rattle.block.specs.declared.parts.AlarmNumber.{AlarmNumber}
-use Rattle.block.specs.declared.registers.TimerRegister.the-variants.{Config, AlarmLo, AlarmHi}
-use Rattle.block.specs.declared.registers.GroupRegister.the-variants.{IntEna}
-use Rattle.block.specs.declared.registers.SystemRegister.the-variants.{Conf, IntEna as SysIntEna}
-use Rattle.block.specs.declared.registers.AlarmRegister.the-variants.{TargetHi, TargetLo, TargetConf}
+use Rattle.base.specs.Bits.{bit, field}
+use Rattle.base.specs.Numbers.{timer-number, alarm-number}
+use Rattle.block.specs.Places.{timer-place, alarm-place, group-place, system-place}
+use Rattle.base.specs.declared.chip.Chip.{Chip}
+use Rattle.base.specs.declared.numbers.TimerNumber.{TimerNumber}
+use Rattle.base.specs.declared.numbers.AlarmNumber.{AlarmNumber}
+use Rattle.base.specs.declared.registers.TimerRegister.the-variants.{Config, AlarmLo, AlarmHi}
+use Rattle.base.specs.declared.registers.GroupRegister.the-variants.{IntEna}
+use Rattle.base.specs.declared.registers.SystemRegister.the-variants.{Conf, IntEna as SysIntEna}
+use Rattle.base.specs.declared.registers.AlarmRegister.the-variants.{TargetHi, TargetLo, TargetConf}
 use Rattle.setting.specs.declared.kinds.Timing.{Timing}
 use Rattle.setting.specs.declared.kinds.Timing.the-variants.{Idle, Once, Again}
 use Rattle.setting.specs.declared.kinds.TimerSetting.{TimerSetting}

@@ -2,9 +2,9 @@
 use mathlib.Core.List.{List}
 use Prim.Native.Nat.{ℕ, zero, suc}
 use lib.ListN.{getD}
-use Rattle.block.specs.Bits.{bit, field}
+use Rattle.base.specs.Bits.{bit, field}
 use Rattle.block.specs.Places.{watchdog-place}
-use Rattle.block.specs.declared.registers.WatchdogRegister.the-variants.{Config0, Config1, Config2, Config3, Config4, Config5}
+use Rattle.base.specs.declared.registers.WatchdogRegister.the-variants.{Config0, Config1, Config2, Config3, Config4, Config5}
 use Rattle.setting.specs.declared.kinds.StageAction.{StageAction}
 use Rattle.setting.specs.declared.kinds.StageAction.the-variants.{Off, Interrupt, ResetCpu, ResetSystem}
 use Rattle.setting.specs.declared.kinds.Actions.{Actions}

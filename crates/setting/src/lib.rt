@@ -2,4 +2,3 @@
 pub mod kinds;
 pub mod readout;
 pub mod text;
-pub mod verdict;

@@ -11,17 +11,17 @@ use crate::kinds::StageAction;
 use crate::kinds::TimerSetting;
 use crate::kinds::Timing;
 use crate::kinds::WatchdogSetting;
+use base::bits::is_set;
+use base::chip::Chip;
+use base::numbers::AlarmNumber;
+use base::numbers::TimerNumber;
+use base::registers::AlarmRegister;
+use base::registers::GroupRegister;
+use base::registers::SystemRegister;
+use base::registers::TimerRegister;
+use base::registers::WatchdogRegister;
 use block::access::Block;
-use block::bits::is_set;
-use block::chip::Chip;
-use block::parts::AlarmNumber;
-use block::parts::TimerNumber;
 use block::place::Place;
-use block::registers::AlarmRegister;
-use block::registers::GroupRegister;
-use block::registers::SystemRegister;
-use block::registers::TimerRegister;
-use block::registers::WatchdogRegister;
 use block::words::watchdog_word;
 use block::words::word_at;
 
@@ -62,7 +62,7 @@ fn timer_listens(chip: &Chip, words: &[u32; 49], number: TimerNumber) -> bool
     }
 }
 
-// The setting of a group timer.
+/// The setting of a group timer.
 pub fn timer_setting(chip: &Chip, words: &[u32; 49], number: TimerNumber) -> TimerSetting
     ensures { λ r. ⌜ r ≡ timer-setting (now (chip .entry)) number (now (words .entry)) ⌝ }
 {
@@ -91,7 +91,7 @@ fn due_of_alarm(words: &[u32; 49], number: AlarmNumber, origin: u64) -> u64
     (target % COUNT_MODULUS + COUNT_MODULUS - origin % COUNT_MODULUS) % COUNT_MODULUS
 }
 
-// The setting of an alarm whose delay began at the system count `origin`.
+/// The setting of an alarm whose delay began at the system count `origin`.
 pub fn alarm_setting(words: &[u32; 49], number: AlarmNumber, origin: u64) -> TimerSetting
     ensures { λ r. ⌜ r ≡ alarm-setting origin number (now (words .entry)) ⌝ }
 {
@@ -141,7 +141,7 @@ fn actions(config: u32) -> Actions
     }
 }
 
-// The setting of the watchdog.
+/// The setting of the watchdog.
 pub fn watchdog_setting(words: &[u32; 49]) -> WatchdogSetting
     ensures { λ r. ⌜ r ≡ watchdog-setting (now (words .entry)) ⌝ }
 {
@@ -161,7 +161,7 @@ pub fn watchdog_setting(words: &[u32; 49]) -> WatchdogSetting
     }
 }
 
-// The settings of every part of a block, read without an access.
+/// The settings of every part of a block, read without an access.
 pub fn settings<B: Block>(block: &B, origins: Origins) -> Settings
     ensures { λ r. ⌜ r ≡ settings-of (B·Block .model .means (now (block .entry))) origins ⌝ }
 {

@@ -36,7 +36,7 @@ pub impl fmt::Display for TimerSetting as TimerSettingDisplay {
 }
 
 impl StageAction {
-    // The number of an action in its stage's two bits.
+    /// The number of an action in its stage's two bits.
     pub fn number(&self) -> u8
         ensures { λ r. ⌜ r ≡ action-number (now (self .entry)) ⌝ }
     {

@@ -1,11 +1,11 @@
 // Reads a write list from standard input and prints what it sets on a new block of the bench unit.
-use block::error::ErrorDisplay;
-use block::profile::Profile;
+use base::error::ErrorDisplay;
+use base::profile::Profile;
 use setting::text::SettingsDisplay;
-use setting::verdict::settings_of_list;
 use std::error::AnyError;
 use std::io;
 use std::io::Read;
+use verdict::settings_of_list;
 
 // One byte more than the longest list, so that a longer input is seen and not cut.
 const MOST_READ: u64 = 65_537;

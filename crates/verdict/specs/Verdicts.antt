@@ -5,16 +5,16 @@ use mathlib.Core.Path.{_≡_}
 use Prim.Native.Nat.{ℕ}
 use Rattle.std.specs.Orderings.{Decides}
 use Rattle.block.specs.Accesses.{after, new-block}
-use Rattle.block.specs.Refusals.{Accepted, refusal}
+use Rattle.base.specs.Refusals.{Accepted, refusal}
 use Rattle.block.specs.Replays.{replay-puts, replay-outcome}
-use Rattle.block.specs.declared.chip.Chip.{Chip}
+use Rattle.base.specs.declared.chip.Chip.{Chip}
 use Rattle.setting.specs.Readouts.{settings-of}
 use Rattle.setting.specs.declared.kinds.Origins.{Origins}
 use Rattle.setting.specs.declared.kinds.Settings.{Settings}
-use Rattle.setting.specs.declared.verdict.Verdict.{Verdict}
-use Rattle.setting.specs.declared.verdict.Which.{Which}
-use Rattle.setting.specs.declared.verdict.Which.the-variants.{First, Second}
-use Rattle.setting.specs.declared.verdict.RefusedList.{RefusedList}
+use Rattle.verdict.specs.declared.Verdict.{Verdict}
+use Rattle.verdict.specs.declared.Which.{Which}
+use Rattle.verdict.specs.declared.Which.the-variants.{First, Second}
+use Rattle.verdict.specs.declared.RefusedList.{RefusedList}
 
 -- Every alarm's delay began at 0.
 abbrev pub zero-origins : Origins

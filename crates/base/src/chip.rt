@@ -1,13 +1,13 @@
 // What a data sheet says of a chip, within the limits of a profile or not.
 
-// The rate of the system count as a share of the crystal's.
+/// The rate of the system count as a share of the crystal's.
 #[derive(Clone, Copy)]
 pub enum Ratio {
     FourTenths,
     Half,
 }
 
-// The words that a chip's registers hold after a reset; all others hold 0.
+/// The words that a chip's registers hold after a reset; all others hold 0.
 #[derive(Clone, Copy)]
 pub struct ResetWords {
     pub config: u32,
@@ -18,18 +18,18 @@ pub struct ResetWords {
 
 #[derive(Clone, Copy)]
 pub struct Chip {
-    // the clock of the group timers and the watchdog, in Hz
+    /// the clock of the group timers and the watchdog, in Hz
     pub clock: u32,
-    // the crystal that drives the system timer, in Hz
+    /// the crystal that drives the system timer, in Hz
     pub crystal: u32,
     pub ratio: Ratio,
-    // how many group timers there are
+    /// how many group timers there are
     pub timers: u8,
-    // a timer listens by LEVEL_INT_EN of its CONFIG, and not by INT_ENA
+    /// a timer listens by LEVEL_INT_EN of its CONFIG, and not by INT_ENA
     pub level: bool,
-    // the watchdog takes its settings over at a confirming bit
+    /// the watchdog takes its settings over at a confirming bit
     pub confirm: bool,
-    // a timeout also restarts the prescaler's own count
+    /// a timeout also restarts the prescaler's own count
     pub divcnt: bool,
     pub reset: ResetWords,
 }

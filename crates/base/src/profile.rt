@@ -1,6 +1,6 @@
 // A chip whose figures lie within the limits.
-ghost use Rattle.block.specs.Chips.{Rates, Timers, Resets, Valid, bench-chip};
-ghost use Rattle.block.specs.Refusals.{Refused, refusal};
+ghost use Rattle.base.specs.Chips.{Rates, Timers, Resets, Valid, bench-chip};
+ghost use Rattle.base.specs.Refusals.{Refused, refusal};
 ghost use mathlib.Core.Path.{_≡_};
 ghost use mathlib.Core.List.{[]};
 ghost use Rattle.std.specs.declared.result.Result.the-variants.{Ok, Err};
@@ -27,7 +27,7 @@ pub struct Profile {
 }
 
 impl Profile {
-    // The profile of a chip, or a refusal where its figures lie outside the limits.
+    /// The profile of a chip, or a refusal where its figures lie outside the limits.
     pub fn new(chip: Chip) -> Result<Profile, Error>
         ensures { λ r. ⌜ elim r [ Ok p ↦ (p .chip ≡ chip) × Valid chip | Err e ↦ (refusal e ≡ Refused 5 []) × (Valid chip → ⊥) ] ⌝ }
     {
@@ -47,7 +47,7 @@ impl Profile {
         Ok(Profile { chip })
     }
 
-    // The chip that the bench unit plays where nothing else is asked for.
+    /// The chip that the bench unit plays where nothing else is asked for.
     pub fn bench() -> Profile
         ensures { λ r. ⌜ r .chip ≡ bench-chip ⌝ }
     {

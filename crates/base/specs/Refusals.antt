@@ -5,8 +5,8 @@ use lib.Chars.{codes}
 use Rattle.std.specs.Written.{decimal}
 use Rattle.std.specs.declared.result.Result.{Result}
 use Rattle.std.specs.declared.result.Result.the-variants.{Ok, Err}
-use Rattle.block.specs.declared.error.Error.{Error}
-use Rattle.block.specs.declared.error.Error.the-variants.{BadProfile, BadRecord, BadLength}
+use Rattle.base.specs.declared.error.Error.{Error}
+use Rattle.base.specs.declared.error.Error.the-variants.{BadProfile, BadRecord, BadLength}
 
 -- How a call ends: accepted, or refused with a number and the values told with it.
 pub data Outcome : Type 0 where

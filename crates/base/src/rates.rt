@@ -1,18 +1,18 @@
 // The rates of a chip.
 ghost use mathlib.Core.Path.{_≡_};
-ghost use Rattle.block.specs.Chips.{clock-mhz, system-mhz};
+ghost use Rattle.base.specs.Chips.{clock-mhz, system-mhz};
 use crate::chip::Chip;
 use crate::chip::Ratio;
 
 impl Chip {
-    // The ticks of the timer clock in a microsecond, cut to whole ones.
+    /// The ticks of the timer clock in a microsecond, cut to whole ones.
     pub fn clock_mhz(&self) -> u32
         ensures { λ r. ⌜ r ≡ clock-mhz (now (self .entry)) ⌝ }
     {
         self.clock / 1_000_000
     }
 
-    // The ticks of the system count in a microsecond, cut to whole ones.
+    /// The ticks of the system count in a microsecond, cut to whole ones.
     pub fn system_mhz(&self) -> u64
         ensures { λ r. ⌜ r ≡ system-mhz (now (self .entry)) ⌝ }
     {

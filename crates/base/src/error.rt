@@ -1,17 +1,17 @@
 // Every refusal of this layer, by one type.
 ghost use mathlib.Core.Path.{_≡_};
 ghost use Rattle.std.specs.declared.option.Option.the-variants.{Some};
-ghost use Rattle.block.specs.Refusals.{number-of, error-text};
+ghost use Rattle.base.specs.Refusals.{number-of, error-text};
 use std::fmt;
 
-// Why a call refused. Each case has a number of its own, which `number` tells.
+/// Why a call refused. Each case has a number of its own, which `number` tells.
 #[derive(Clone, Copy, PartialEq, Eq, Debug)]
 pub enum Error {
-    // The chip's figures lie outside the limits of a profile.
+    /// The chip's figures lie outside the limits of a profile.
     BadProfile,
-    // The record with this index, from 0, names no place or has a filler byte that is not 0.
+    /// The record with this index, from 0, names no place or has a filler byte that is not 0.
     BadRecord(usize),
-    // The list is no whole number of records, or too long; with the number of whole records that count.
+    /// The list is no whole number of records, or too long; with the number of whole records that count.
     BadLength(usize),
 }
 

@@ -3,9 +3,9 @@ use mathlib.Core.Bool.{false}
 use mathlib.Core.Path.{_≡_}
 use Prim.Native.Nat.{ℕ, _*_, _/_, _≤_}
 use lib.Bits.{bitAnd}
-use Rattle.block.specs.declared.chip.Chip.{Chip}
-use Rattle.block.specs.declared.chip.Ratio.{Ratio}
-use Rattle.block.specs.declared.chip.Ratio.the-variants.{FourTenths, Half}
+use Rattle.base.specs.declared.chip.Chip.{Chip}
+use Rattle.base.specs.declared.chip.Ratio.{Ratio}
+use Rattle.base.specs.declared.chip.Ratio.the-variants.{FourTenths, Half}
 
 -- The timer clock is at least 1 MHz; the crystal runs at 2.5 MHz to 1 GHz.
 abbrev pub Rates : Chip → Type 0

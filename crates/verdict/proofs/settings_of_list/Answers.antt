@@ -1,5 +1,5 @@
-use Rattle.setting.proofs.Listed.{list-read}
-use Rattle.setting.proofs.verdict.settings_of_list.Needs as need
+use Rattle.verdict.proofs.Listed.{list-read}
+use Rattle.verdict.proofs.settings_of_list.Needs as need
 
 pub returns : need.returns
 returns c = record {

@@ -7,8 +7,8 @@ use native.Mathlib.Omega.{arith}
 use borrow.Author.Tests.{le-ltb}
 use lib.Dec.{ltb}
 use lib.Pow.{pow-mono}
-use Rattle.block.specs.Bits.{bit}
-use Rattle.block.proofs.bits.is_set.Needs as need
+use Rattle.base.specs.Bits.{bit}
+use Rattle.base.proofs.bits.is_set.Needs as need
 
 pub returns-else-n-lt32 : need.returns-else-n-lt32
 returns-else-n-lt32 c =

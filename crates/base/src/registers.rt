@@ -1,6 +1,6 @@
 // The names of the registers that anybody may reach.
 
-// A register of one group timer.
+/// A register of one group timer.
 #[derive(Clone, Copy)]
 pub enum TimerRegister {
     Config,
@@ -14,7 +14,7 @@ pub enum TimerRegister {
     Load,
 }
 
-// A register that the group timers share, and VALID, our own.
+/// A register that the group timers share, and VALID, our own.
 #[derive(Clone, Copy)]
 pub enum GroupRegister {
     IntEna,
@@ -23,7 +23,7 @@ pub enum GroupRegister {
     Valid,
 }
 
-// A register of the system timer that its alarms share.
+/// A register of the system timer that its alarms share.
 #[derive(Clone, Copy)]
 pub enum SystemRegister {
     Conf,
@@ -35,7 +35,7 @@ pub enum SystemRegister {
     IntClr,
 }
 
-// A register of one alarm.
+/// A register of one alarm.
 #[derive(Clone, Copy)]
 pub enum AlarmRegister {
     TargetHi,
@@ -44,7 +44,7 @@ pub enum AlarmRegister {
     CompLoad,
 }
 
-// A register of the watchdog. Its places are protected: only the holder of an open protection puts there.
+/// A register of the watchdog. Its places are protected: only the holder of an open protection puts there.
 #[derive(Clone, Copy)]
 pub enum WatchdogRegister {
     Config0,

@@ -1,22 +1,22 @@
 // The settings of a write list, and the verdict on two.
 ghost use mathlib.Core.Path.{_≡_};
 ghost use Rattle.std.specs.declared.result.Result.the-variants.{Ok, Err};
-ghost use Rattle.block.specs.Refusals.{outcome};
+ghost use Rattle.base.specs.Refusals.{outcome};
 ghost use Rattle.block.specs.Replays.{replay-outcome};
-ghost use Rattle.setting.specs.Verdicts.{list-settings, Judged, Lists, Refuses, all-same};
-use crate::kinds::Origins;
-use crate::kinds::Settings;
-use crate::kinds::SettingsPartialEq;
-use crate::kinds::TimerSettingPartialEq;
-use crate::kinds::WatchdogSettingPartialEq;
-use crate::readout::settings;
-use block::error::Error;
-use block::profile::Profile;
+ghost use Rattle.verdict.specs.Verdicts.{list-settings, Judged, Lists, Refuses, all-same};
+use base::error::Error;
+use base::profile::Profile;
 use block::replay::replay;
 use block::simulated::SimulatedBlock;
 use block::simulated::SimulatedBlockBlock;
+use setting::kinds::Origins;
+use setting::kinds::Settings;
+use setting::kinds::SettingsPartialEq;
+use setting::kinds::TimerSettingPartialEq;
+use setting::kinds::WatchdogSettingPartialEq;
+use setting::readout::settings;
 
-// For each part, whether two blocks set it the same; a part that neither has is the same.
+/// For each part, whether two blocks set it the same; a part that neither has is the same.
 #[derive(Clone, Copy)]
 pub struct Verdict {
     pub timer0: bool,
@@ -27,21 +27,21 @@ pub struct Verdict {
     pub watchdog: bool,
 }
 
-// Which of two lists.
+/// Which of two lists.
 #[derive(Clone, Copy)]
 pub enum Which {
     First,
     Second,
 }
 
-// One of two lists was refused.
+/// One of two lists was refused.
 #[derive(Clone, Copy)]
 pub struct RefusedList {
     pub list: Which,
     pub error: Error,
 }
 
-// What a write list sets on a new block of the profile, whose alarms' delays begin at 0; or the list's refusal.
+/// What a write list sets on a new block of the profile, whose alarms' delays begin at 0; or the list's refusal.
 pub fn settings_of_list(profile: Profile, list: &[u8]) -> Result<Settings, Error>
     ensures answer { λ r. ⌜ outcome r ≡ replay-outcome (now (list .entry)) ⌝ }
     ensures settings { λ r. ⌜ elim r [ Ok s ↦ s ≡ list-settings (profile .chip) (now (list .entry)) | Err e ↦ Unit {0} ] ⌝ }
@@ -56,7 +56,7 @@ pub fn settings_of_list(profile: Profile, list: &[u8]) -> Result<Settings, Error
     Ok(settings(&block, origins))
 }
 
-// Compares two blocks' settings, part by part.
+/// Compares two blocks' settings, part by part.
 pub fn judge(first: &Settings, second: &Settings) -> Verdict
     ensures { λ r. ⌜ Judged (now (first .entry)) (now (second .entry)) r ⌝ }
 {
@@ -70,7 +70,7 @@ pub fn judge(first: &Settings, second: &Settings) -> Verdict
     }
 }
 
-// The verdict on two write lists, each replayed on a new block of the profile; or the refusal of the first that is refused.
+/// The verdict on two write lists, each replayed on a new block of the profile; or the refusal of the first that is refused.
 pub fn judge_lists(profile: Profile, first: &[u8], second: &[u8]) -> Result<Verdict, RefusedList>
     ensures { λ r. ⌜ elim r [ Ok v ↦ Lists (profile .chip) (now (first .entry)) (now (second .entry)) v | Err e ↦ Refuses (e .list) e (now (first .entry)) (now (second .entry)) ] ⌝ }
 {
@@ -92,7 +92,7 @@ pub fn judge_lists(profile: Profile, first: &[u8], second: &[u8]) -> Result<Verd
 }
 
 impl Verdict {
-    // Whether every part is the same.
+    /// Whether every part is the same.
     pub fn same(&self) -> bool
         ensures { λ r. ⌜ r ≡ all-same (now (self .entry)) ⌝ }
     {
