@@ -2,17 +2,18 @@
 use mathlib.Core.List.{List, [], _∷_}
 use mathlib.Core.Path.{_≡_, refl, sym, ap, _∙_}
 use Prim.Native.Nat.{ℕ}
-use lib.ListN.{length}
+use lib.ListN.{length, set, length-set}
 use denote.Ref.{now, name}
-use Rattle.block.specs.Places.{place-count}
+use Rattle.block.specs.Places.{place-count, group-place}
 use Rattle.block.specs.Puts.{stored}
 use Rattle.block.specs.Accesses.{Access, Get, Put, Meaning, words-after, after, new-words, new-block}
 use Rattle.block.specs.Parts.{handles-of}
 use Rattle.block.specs.Model.{whole}
 use Rattle.block.specs.Records.{counted, noted, puts-after, list-after, recorder-means, Recorded}
-use Rattle.block.specs.Comparators.{comparators-put, comparators-after, Simulated}
+use Rattle.block.specs.Comparators.{comparators-put, comparators-after, Simulated, with-valid}
 use Rattle.block.proofs.Arrays.{whole-is}
 use Rattle.base.specs.declared.chip.Chip.{Chip}
+use Rattle.base.specs.declared.registers.GroupRegister.the-variants.{Valid}
 use Rattle.block.specs.declared.parts.Handles.{Handles}
 use Rattle.block.specs.declared.recorder.Recorder.{Recorder}
 use Rattle.block.specs.declared.simulated.Comparator.{Comparator}
@@ -52,3 +53,10 @@ new-meaning chip made ws same e = rw (e, whole-is (new-words made) refl, same)
 
 pub handles-made : (chip made : Chip) (hs : Handles) → made ≡ chip → hs ≡ handles-of made → hs ≡ handles-of chip
 handles-made chip made hs same e = e ∙ ap handles-of same
+
+-- the meaning with another word in VALID, over arrays
+pub valid-meaning : (chip : Chip) (ws vs : List ℕ) (w : ℕ) → length ws ≡ place-count → vs ≡ set ws (group-place Valid) w
+    → _≡_ {A = Meaning} (record { chip = chip; words = whole vs }) (with-valid w (record { chip = chip; words = whole ws }))
+valid-meaning chip ws vs w long e =
+    let long′ : length vs ≡ place-count = ap length e ∙ simp length-set long in
+    rw (whole-is vs long′, whole-is ws long, e)

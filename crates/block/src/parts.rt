@@ -8,28 +8,28 @@ use base::numbers::TimerNumber;
 /// The right to use a group timer. Only making a block gives one, and it cannot be copied.
 #[derive(Drop)]
 pub struct TimerHandle {
-    number: TimerNumber,
+    timer: TimerNumber,
 }
 
 impl TimerHandle {
     pub fn number(&self) -> TimerNumber
-        ensures { λ r. ⌜ r ≡ now (self .entry) .number ⌝ }
+        ensures { λ r. ⌜ r ≡ now (self .entry) .timer ⌝ }
     {
-        self.number
+        self.timer
     }
 }
 
 /// The right to use an alarm.
 #[derive(Drop)]
 pub struct AlarmHandle {
-    number: AlarmNumber,
+    alarm: AlarmNumber,
 }
 
 impl AlarmHandle {
     pub fn number(&self) -> AlarmNumber
-        ensures { λ r. ⌜ r ≡ now (self .entry) .number ⌝ }
+        ensures { λ r. ⌜ r ≡ now (self .entry) .alarm ⌝ }
     {
-        self.number
+        self.alarm
     }
 }
 
@@ -54,24 +54,24 @@ impl Handles {
     {
         let timer1 = if chip.timers == 2 {
             Some(TimerHandle {
-                number: TimerNumber::One,
+                timer: TimerNumber::One,
             })
         } else {
             None
         };
         Handles {
             timer0: TimerHandle {
-                number: TimerNumber::Zero,
+                timer: TimerNumber::Zero,
             },
             timer1,
             alarm0: AlarmHandle {
-                number: AlarmNumber::Zero,
+                alarm: AlarmNumber::Zero,
             },
             alarm1: AlarmHandle {
-                number: AlarmNumber::One,
+                alarm: AlarmNumber::One,
             },
             alarm2: AlarmHandle {
-                number: AlarmNumber::Two,
+                alarm: AlarmNumber::Two,
             },
             watchdog: WatchdogHandle(()),
         }

@@ -21,10 +21,6 @@ impl Place {
     pub fn timer(number: TimerNumber, register: TimerRegister) -> Place
         ensures { λ r. ⌜ r .index ≡ timer-place number register ⌝ }
     {
-        let first = match number {
-            TimerNumber::Zero => 0,
-            TimerNumber::One => 9,
-        };
         let offset = match register {
             TimerRegister::Config => 0,
             TimerRegister::Lo => 1,
@@ -37,7 +33,7 @@ impl Place {
             TimerRegister::Load => 8,
         };
         Place {
-            index: first + offset,
+            index: 9 * number.index() + offset,
         }
     }
 
@@ -71,11 +67,7 @@ impl Place {
     pub fn alarm(number: AlarmNumber, register: AlarmRegister) -> Place
         ensures { λ r. ⌜ r .index ≡ alarm-place number register ⌝ }
     {
-        let channel = match number {
-            AlarmNumber::Zero => 0,
-            AlarmNumber::One => 1,
-            AlarmNumber::Two => 2,
-        };
+        let channel = number.index();
         let index = match register {
             AlarmRegister::TargetHi => 34 + 2 * channel,
             AlarmRegister::TargetLo => 35 + 2 * channel,

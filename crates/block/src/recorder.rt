@@ -73,7 +73,8 @@ impl Recorder<'_> {
     pub fn puts(&self) -> u64
         ensures { λ r. ⌜ r ≡ now (self .entry) .puts ⌝ }
     {
-        self.puts
+        let Recorder { puts, .. } = self;
+        *puts
     }
 }
 

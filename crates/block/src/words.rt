@@ -157,7 +157,8 @@ pub(crate) fn copy(words: &[u32; 49]) -> [u32; 49]
 pub fn word_at(words: &[u32; 49], at: Place) -> u32
     ensures { λ r. ⌜ r ≡ getD (now (words .entry)) (at .index) 0 ⌝ }
 {
-    words[at.index() as usize]
+    let index = at.index() as usize;
+    words[index]
 }
 
 /// A watchdog's word there: to read it, its protection need not be open.

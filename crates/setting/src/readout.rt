@@ -56,10 +56,7 @@ fn timer_listens(chip: &Chip, words: &[u32; 49], number: TimerNumber) -> bool
         );
     }
     let enabled = word_at(words, Place::group(GroupRegister::IntEna));
-    match number {
-        TimerNumber::Zero => is_set(enabled, 0),
-        TimerNumber::One => is_set(enabled, 1),
-    }
+    is_set(enabled, number.index())
 }
 
 /// The setting of a group timer.
@@ -95,11 +92,7 @@ fn due_of_alarm(words: &[u32; 49], number: AlarmNumber, origin: u64) -> u64
 pub fn alarm_setting(words: &[u32; 49], number: AlarmNumber, origin: u64) -> TimerSetting
     ensures { λ r. ⌜ r ≡ alarm-setting origin number (now (words .entry)) ⌝ }
 {
-    let channel: u8 = match number {
-        AlarmNumber::Zero => 0,
-        AlarmNumber::One => 1,
-        AlarmNumber::Two => 2,
-    };
+    let channel = number.index();
     let run = is_set(
         word_at(words, Place::system(SystemRegister::Conf)),
         24 - channel,

@@ -16,6 +16,9 @@ use setting::kinds::TimerSettingPartialEq;
 use setting::kinds::WatchdogSettingPartialEq;
 use setting::readout::settings;
 
+#[cfg(test)]
+mod tests;
+
 /// For each part, whether two blocks set it the same; a part that neither has is the same.
 #[derive(Clone, Copy)]
 pub struct Verdict {
