@@ -1,15 +1,13 @@
 -- One record of a list, and then the rest.
-use mathlib.Core.Bool.{Bool, true, false, cond, _&&_}
+use mathlib.Core.Bool.{Bool, true, false, _&&_}
 use mathlib.Core.List.{List, [], _∷_}
 use mathlib.Core.Path.{_≡_, refl, ap}
 use Prim.Native.Nat.{ℕ, suc, _-_, _*_, _/_, _%_, _<_, _≤_}
 use native.Mathlib.Omega.{arith}
 use borrow.Author.Tests.{lt-ltb, le-ltb, ltb-true}
-use lib.Dec.{ltb, eqb}
 use lib.ListN.{length, take, drop, length-drop}
 use lib.Seq.{take-all}
 use Rattle.block.specs.Places.{place-count}
-use Rattle.block.specs.Accesses.{Access}
 use Rattle.base.specs.Refusals.{Accepted, Refused}
 use Rattle.block.specs.Replays.{most-records, is-record, good, put-of, puts-of, good-records, replay-puts, replay-outcome}
 

@@ -1,15 +1,14 @@
 -- One access of each block, from what its code leaves in its fields.
 use mathlib.Core.List.{List, [], _∷_}
-use mathlib.Core.Path.{_≡_, refl, sym, ap, _∙_}
+use mathlib.Core.Path.{_≡_, refl, ap, _∙_}
 use Prim.Native.Nat.{ℕ}
 use lib.ListN.{length, set, length-set}
-use denote.Ref.{now, name}
 use Rattle.block.specs.Places.{place-count, group-place}
 use Rattle.block.specs.Puts.{stored}
-use Rattle.block.specs.Accesses.{Access, Get, Put, Meaning, words-after, after, new-words, new-block}
+use Rattle.block.specs.Accesses.{Get, Put, Meaning, words-after, after, new-words, new-block}
 use Rattle.block.specs.Parts.{handles-of}
 use Rattle.block.specs.Model.{whole}
-use Rattle.block.specs.Records.{counted, noted, puts-after, list-after, recorder-means, Recorded}
+use Rattle.block.specs.Records.{counted, noted, puts-after, list-after, Recorded}
 use Rattle.block.specs.Comparators.{comparators-put, comparators-after, Simulated, with-valid}
 use Rattle.block.proofs.Arrays.{whole-is}
 use Rattle.base.specs.declared.chip.Chip.{Chip}

@@ -3,7 +3,7 @@ use mathlib.Core.List.{List, [], _∷_, _++_}
 use mathlib.Core.Path.{_≡_, refl, sym, ap, _∙_}
 use Prim.Native.Nat.{ℕ}
 use native.Mathlib.Omega.{arith}
-use lib.ListN.{length, take, replicate, length-take, length-append, length-replicate}
+use lib.ListN.{length, length-take, length-append, length-replicate}
 use Rattle.block.specs.Places.{place-count}
 use Rattle.block.specs.Accesses.{Access, Get, Put, Meaning, stepped, words-after, after}
 use Rattle.block.specs.Model.{Model, whole}

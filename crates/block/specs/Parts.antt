@@ -1,12 +1,10 @@
 -- The handles that come with a block. Assumes nothing.
 use mathlib.Core.Bool.{cond}
 use lib.Dec.{eqb}
-use Rattle.std.specs.declared.option.Option.{Option}
 use Rattle.std.specs.declared.option.Option.the-variants.{Some, None}
 use Rattle.base.specs.declared.chip.Chip.{Chip}
 use Rattle.base.specs.declared.numbers.TimerNumber.the-variants.{Zero, One}
 use Rattle.base.specs.declared.numbers.AlarmNumber.the-variants.{Zero as Zero′, One as One′, Two as Two′}
-use Rattle.block.specs.declared.parts.TimerHandle.{TimerHandle}
 use Rattle.block.specs.declared.parts.Handles.{Handles}
 
 -- One handle for each part, each with its own number; timer 1 only where the chip has two timers.

@@ -1,11 +1,11 @@
 -- The put rule: what a put leaves in the words. Assumes nothing.
-use mathlib.Core.Bool.{Bool, cond}
+use mathlib.Core.Bool.{cond}
 use mathlib.Core.List.{List, [], _∷_, _++_}
 use Prim.Native.Nat.{ℕ, _+_, _%_, _^_}
 use lib.Dec.{eqb}
 use lib.ListN.{getD, set}
 use lib.Bits.{bitAnd, bitXor}
-use Rattle.block.specs.Places.{timer-place, group-place, system-place, watchdog-place, protection-place}
+use Rattle.block.specs.Places.{timer-place, group-place, system-place, protection-place}
 use Rattle.base.specs.declared.chip.Chip.{Chip}
 use Rattle.base.specs.declared.numbers.TimerNumber.{TimerNumber}
 use Rattle.base.specs.declared.numbers.TimerNumber.the-variants.{Zero, One}

@@ -11,7 +11,6 @@ use block::simulated::SimulatedBlock;
 use block::simulated::SimulatedBlockBlock;
 use setting::kinds::Origins;
 use setting::kinds::Settings;
-use setting::kinds::SettingsPartialEq;
 use setting::kinds::TimerSettingPartialEq;
 use setting::kinds::WatchdogSettingPartialEq;
 use setting::readout::settings;

@@ -1,11 +1,9 @@
 -- A word is below 2 ^ 32, so that it has no bit from 32 on.
-use mathlib.Core.Bool.{false}
 use mathlib.Core.Path.{_≡_, sym, _∙_}
-use Prim.Native.Nat.{_/_, _^_, _<_, _≤_}
+use Prim.Native.Nat.{_/_, _^_, _≤_}
 use native.Mathlib.Nat.{div-eq-of-lt}
 use native.Mathlib.Omega.{arith}
 use borrow.Author.Tests.{le-ltb}
-use lib.Dec.{ltb}
 use lib.Pow.{pow-mono}
 use Rattle.base.specs.Bits.{bit}
 use Rattle.base.proofs.bits.is_set.Needs as need

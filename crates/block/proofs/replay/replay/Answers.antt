@@ -1,11 +1,11 @@
 use mathlib.Core.Bool.{true, false}
 use mathlib.Core.List.{[], _∷_}
-use mathlib.Core.Path.{_≡_, sym, ap, _∙_}
-use Prim.Native.Nat.{_-_, _/_, _%_, _<_, _≤_}
+use mathlib.Core.Path.{_≡_, sym, ap}
+use Prim.Native.Nat.{_-_, _/_, _<_, _≤_}
 use native.Mathlib.Omega.{arith}
 use borrow.Author.Tests.{ltb-true, ltb-false, leb-true, leb-false}
 use lib.ListN.{length, take, drop, length-drop}
-use Rattle.block.specs.Replays.{good, put-of, puts-of, good-records}
+use Rattle.block.specs.Replays.{good, put-of, good-records}
 use Rattle.block.proofs.Chains.{did-as, did-nothing, did-then}
 use Rattle.block.proofs.Replaying.{tail-is, puts-good, count-good, puts-bad, count-bad, puts-end, count-end, long-puts, long-outcome, odd-puts, odd-outcome, even-puts, bad-outcome, good-outcome}
 use Rattle.block.proofs.replay.replay.Needs as need

@@ -1,8 +1,6 @@
 use mathlib.Core.Path.{_≡_}
-use mathlib.Core.List.{List, _++_}
-use Prim.Native.Nat.{ℕ, _+_, _*_, _/_, _%_}
+use Prim.Native.Nat.{_+_, _*_, _/_, _%_}
 use lib.ListN.{length}
-use Rattle.block.specs.Accesses.{Access}
 use Rattle.block.specs.Replays.{puts-of, good-records}
 use Rattle.block.proofs.replay.replay.Given as given
 
