@@ -6,7 +6,7 @@ use native.Mathlib.Omega.{arith}
 use lib.ListN.{length, take, replicate}
 use lib.Seq.{take-append-le, take-all}
 use Rattle.block.specs.Places.{place-count}
-use Rattle.block.specs.Model.{whole}
+use Rattle.block.specs.Files.{whole}
 
 -- an array of a block has all its words
 pub whole-is : (ws : List ℕ) → length ws ≡ place-count → whole ws ≡ ws

@@ -1,7 +1,7 @@
 -- What a block means, and what accesses make of it. Assumes nothing.
 use mathlib.Core.List.{List, [], _∷_, _++_}
 use Prim.Native.Nat.{ℕ}
-use lib.ListN.{replicate}
+use lib.ListN.{replicate, set}
 use Rattle.block.specs.Puts.{stored}
 use Rattle.base.specs.declared.chip.Chip.{Chip}
 
@@ -40,3 +40,7 @@ new-words chip =
 -- What a new block of a chip means.
 abbrev pub new-block : Chip → Meaning
 new-block chip = record { chip = chip; words = new-words chip }
+
+-- The meaning with another word at a place, and all else as it was.
+abbrev pub with-word : ℕ → ℕ → Meaning → Meaning
+with-word at w m = record { chip = m .chip; words = set (m .words) at w }

@@ -3,7 +3,5 @@ pub mod Parts
 pub mod Puts
 pub mod Accesses
 pub mod Model
-pub mod Records
-pub mod Comparators
+pub mod Files
 pub mod Replays
-pub mod Joins

@@ -2,7 +2,7 @@
 use mathlib.Core.List.{List, [], _++_}
 use mathlib.Core.Path.{_≡_}
 use Prim.Native.Nat.{ℕ}
-use lib.ListN.{length, take, replicate}
+use lib.ListN.{length}
 use Rattle.block.specs.Places.{place-count}
 use Rattle.block.specs.Accesses.{Meaning, Access, after}
 
@@ -19,7 +19,3 @@ pub record Model (S : Type 0) : Type 1 where
   pub more : (s t u : S) (xs ys : List Access) → did s xs t → did t ys u → did s (xs ++ ys) u
   -- accesses change the meaning by the put rule
   pub leaves : (s t : S) (xs : List Access) → did s xs t → means t ≡ after (means s) xs
-
--- The words of an array: it has 49, so this is the array itself.
-unfoldable pub whole : List ℕ → List ℕ
-whole ws = take place-count (ws ++ replicate place-count 0)

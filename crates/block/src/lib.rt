@@ -3,7 +3,6 @@ pub mod access;
 pub mod parts;
 pub mod place;
 pub mod protection;
-pub mod recorder;
+pub mod register_file;
 pub mod replay;
-pub mod simulated;
 pub mod words;

@@ -11,13 +11,13 @@ use base::profile::Profile;
 use base::registers::GroupRegister;
 use base::registers::TimerRegister;
 use block::place::Place;
-use block::recorder::Recorder;
-use block::recorder::RecorderBlock;
 use block::replay::replay;
-use block::simulated::SimulatedBlock;
-use block::simulated::SimulatedBlockBlock;
 use block::words::watchdog_word;
 use block::words::word_at;
+use recorder::Recorder;
+use recorder::RecorderBlock;
+use simulated::SimulatedBlock;
+use simulated::SimulatedBlockBlock;
 use std::test::*;
 
 fn accepted(chip: Chip) -> bool {

@@ -1,6 +1,6 @@
 ghost use mathlib.Core.Path.{_≡_};
 ghost use Prim.Native.Nat.{_+_, _-_, _*_, _/_, _^_, min};
-ghost use Rattle.std.specs.Options.{isSome, mapped, valueOr};
+ghost use Rattle.std.specs.Options.{mapped};
 ghost use Rattle.std.specs.declared.option.Option.the-variants.{Some};
 ghost use Rattle.time.specs.Counts.{micros};
 ghost use Rattle.time.specs.Fit.{difference, fitting, quotient};
@@ -135,23 +135,5 @@ impl Duration {
         ensures { λ r. ⌜ micros r ≡ micros self - micros rhs ⌝ }
     {
         Self(self.as_micros().saturating_sub(rhs.as_micros()))
-    }
-
-    /// Adds in place. Where the sum does not fit, the duration stays as it was.
-    pub fn checked_add_assign(&mut self, rhs: Self) -> Option<()>
-        ensures test { λ r. ⌜ isSome r ≡ isSome (fitting 64 (micros (now (self .entry)) + micros rhs)) ⌝ }
-        ensures after { λ _. ⌜ micros (now (self .exit)) ≡ valueOr (fitting 64 (micros (now (self .entry)) + micros rhs)) (micros (now (self .entry))) ⌝ }
-    {
-        *self = self.checked_add(rhs)?;
-        Some(())
-    }
-
-    /// Subtracts in place. Where `rhs` is longer, the duration stays as it was.
-    pub fn checked_sub_assign(&mut self, rhs: Self) -> Option<()>
-        ensures test { λ r. ⌜ isSome r ≡ isSome (difference (micros (now (self .entry))) (micros rhs)) ⌝ }
-        ensures after { λ _. ⌜ micros (now (self .exit)) ≡ valueOr (difference (micros (now (self .entry))) (micros rhs)) (micros (now (self .entry))) ⌝ }
-    {
-        *self = self.checked_sub(rhs)?;
-        Some(())
     }
 }

@@ -1,6 +1,6 @@
 ghost use mathlib.Core.Path.{_≡_};
 ghost use Prim.Native.Nat.{_+_, _-_, _%_, _^_};
-ghost use Rattle.std.specs.Options.{isSome, mapped, valueOr};
+ghost use Rattle.std.specs.Options.{mapped};
 ghost use Rattle.std.specs.declared.option.Option.the-variants.{Some};
 ghost use Rattle.time.specs.Counts.{micros, since-epoch};
 ghost use Rattle.time.specs.Fit.{difference, fitting};
@@ -53,23 +53,5 @@ impl Instant {
         ensures { λ r. ⌜ micros r ≡ (since-epoch self + 2 ^ 64 - since-epoch rhs) % 2 ^ 64 ⌝ }
     {
         Duration::from_micros(self.0.wrapping_sub(rhs.0))
-    }
-
-    /// Moves the instant later. Where the sum does not fit, the instant stays as it was.
-    pub fn checked_add_assign(&mut self, rhs: Duration) -> Option<()>
-        ensures test { λ r. ⌜ isSome r ≡ isSome (fitting 64 (since-epoch (now (self .entry)) + micros rhs)) ⌝ }
-        ensures after { λ _. ⌜ since-epoch (now (self .exit)) ≡ valueOr (fitting 64 (since-epoch (now (self .entry)) + micros rhs)) (since-epoch (now (self .entry))) ⌝ }
-    {
-        *self = self.checked_add(rhs)?;
-        Some(())
-    }
-
-    /// Moves the instant earlier. Where that lies before the epoch, the instant stays as it was.
-    pub fn checked_sub_assign(&mut self, rhs: Duration) -> Option<()>
-        ensures test { λ r. ⌜ isSome r ≡ isSome (difference (since-epoch (now (self .entry))) (micros rhs)) ⌝ }
-        ensures after { λ _. ⌜ since-epoch (now (self .exit)) ≡ valueOr (difference (since-epoch (now (self .entry))) (micros rhs)) (since-epoch (now (self .entry))) ⌝ }
-    {
-        *self = self.checked_sub(rhs)?;
-        Some(())
     }
 }

@@ -7,13 +7,13 @@ ghost use Rattle.verdict.specs.Verdicts.{list-settings, Judged, Lists, Refuses
 use base::error::Error;
 use base::profile::Profile;
 use block::replay::replay;
-use block::simulated::SimulatedBlock;
-use block::simulated::SimulatedBlockBlock;
 use setting::kinds::Origins;
 use setting::kinds::Settings;
 use setting::kinds::TimerSettingPartialEq;
 use setting::kinds::WatchdogSettingPartialEq;
 use setting::readout::settings;
+use simulated::SimulatedBlock;
+use simulated::SimulatedBlockBlock;
 
 #[cfg(test)]
 mod tests;

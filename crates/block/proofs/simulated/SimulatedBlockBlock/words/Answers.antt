@@ -1,6 +1,0 @@
-use mathlib.Core.Path.{sym, _∙_}
-use Rattle.block.proofs.Arrays.{whole-is}
-use Rattle.block.proofs.simulated.SimulatedBlockBlock.words.Needs as need
-
-pub returns : need.returns
-returns c = c .copy .ensures .value ∙ sym (whole-is _ (c .copy .ensures .sized))
