@@ -1,7 +1,6 @@
 -- What every block owes. Assumes nothing.
 use mathlib.Core.List.{List, [], _++_}
 use mathlib.Core.Path.{_≡_}
-use Prim.Native.Nat.{ℕ}
 use lib.ListN.{length}
 use Rattle.block.specs.Places.{place-count}
 use Rattle.block.specs.Accesses.{Meaning, Access, after}
