@@ -5,6 +5,7 @@ ghost use lib.ListN.{getD};
 ghost use Rattle.block.specs.Accesses.{Get, Put};
 ghost use Rattle.block.specs.Model.{Model};
 use crate::place::Place;
+use crate::words::Words;
 use base::chip::Chip;
 
 /// A block means its chip and its words, and says which accesses were made of it.
@@ -25,6 +26,6 @@ pub trait Block {
         ensures { λ _. ⌜ model .did (now (self .entry)) (Put (at .index) word ∷ []) (now (self .exit)) ⌝ };
 
     /// Every word, by no access: for reading settings.
-    fn words(&self) -> [u32; 49]
+    fn words(&self) -> Words
         ensures { λ r. ⌜ r ≡ model .means (now (self .entry)) .words ⌝ };
 }

@@ -7,9 +7,8 @@ ghost use Rattle.block.specs.Places.{protection-place, watchdog-place};
 ghost use Rattle.block.specs.Puts.{open-key};
 use crate::access::Block;
 use crate::place::Place;
+use crate::words::KEY;
 use base::registers::WatchdogRegister;
-
-const KEY: u32 = 0x50D8_3AA1;
 
 /// The protection of a block stands open. It is not `Drop`: whoever holds it owes the closing, which alone ends it.
 pub struct OpenProtection(());

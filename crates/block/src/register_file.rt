@@ -6,6 +6,7 @@ ghost use Rattle.block.specs.Parts.{handles-of};
 use crate::access::Block;
 use crate::parts::Handles;
 use crate::place::Place;
+use crate::words::Words;
 use crate::words::copy;
 use crate::words::new_words;
 use crate::words::store;
@@ -15,7 +16,7 @@ use base::profile::Profile;
 #[derive(Drop)]
 pub struct RegisterFile {
     chip: Chip,
-    words: [u32; 49],
+    words: Words,
 }
 
 impl RegisterFile {
@@ -33,7 +34,8 @@ impl RegisterFile {
     pub fn set(&mut self, at: Place, word: u32)
         ensures { λ _. ⌜ file-means (now (self .exit)) ≡ with-word (at .index) word (file-means (now (self .entry))) ⌝ }
     {
-        self.words[at.index() as usize] = word;
+        let index = at.index() as usize;
+        self.words[index] = word;
     }
 }
 
@@ -53,7 +55,7 @@ pub impl Block for RegisterFile as RegisterFileBlock {
         store(&mut self.words, &chip, at, word);
     }
 
-    fn words(&self) -> [u32; 49] {
+    fn words(&self) -> Words {
         copy(&self.words)
     }
 }

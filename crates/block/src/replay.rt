@@ -7,6 +7,7 @@ ghost use Rattle.base.specs.Refusals.{outcome};
 ghost use Rattle.block.specs.Replays.{is-record, replay-outcome, replay-puts};
 use crate::access::Block;
 use crate::place::Place;
+use crate::words::PLACES;
 use base::error::Error;
 
 // The longest write list, in records and in bytes.
@@ -19,7 +20,7 @@ fn is_record(place: u8, f0: u8, f1: u8, f2: u8) -> bool
     ensures value { λ r. ⌜ r ≡ is-record place f0 f1 f2 ⌝ }
     ensures within { λ r. ⌜ (r ≡ true → place < place-count) ⌝ }
 {
-    (place < 49) & (f0 == 0) & (f1 == 0) & (f2 == 0)
+    ((place as usize) < PLACES) & (f0 == 0) & (f1 == 0) & (f2 == 0)
 }
 
 /// Puts the records of a list in their order. A list of a wrong length is refused before any put; at a bad record the

@@ -9,7 +9,11 @@ use base::chip::Chip;
 use base::numbers::TimerNumber;
 use base::registers::WatchdogRegister;
 
+/// How many words a block has.
 pub const PLACES: usize = 49;
+
+/// The words of a block, by place.
+pub type Words = [u32; PLACES];
 
 /// What a put at a place does.
 #[derive(Clone, Copy)]
@@ -61,7 +65,8 @@ const SYS_INT_RAW: usize = 47;
 
 const PROTECTION: usize = 25;
 
-const KEY: u32 = 0x50D8_3AA1;
+/// The word that opens the protection.
+pub(crate) const KEY: u32 = 0x50D8_3AA1;
 
 const CONFIRM: u32 = 0x40_0000;
 
@@ -79,7 +84,7 @@ fn clear(word: u32, bits: u32) -> u32
 }
 
 // LOADLO and the low 22 bits of LOADHI become the count.
-fn load(words: &mut [u32; 49], number: TimerNumber)
+fn load(words: &mut Words, number: TimerNumber)
     ensures { λ _. ⌜ now (words .exit) ≡ loaded number (now (words .entry)) ⌝ }
 {
     match number {
@@ -94,7 +99,7 @@ fn load(words: &mut [u32; 49], number: TimerNumber)
     }
 }
 
-fn store_protected(words: &mut [u32; 49], at: Place, word: u32)
+fn store_protected(words: &mut Words, at: Place, word: u32)
     ensures { λ _. ⌜ now (words .exit) ≡ guarded (now (words .entry)) (at .index) word ⌝ }
 {
     if words[PROTECTION] == KEY {
@@ -102,7 +107,7 @@ fn store_protected(words: &mut [u32; 49], at: Place, word: u32)
     }
 }
 
-fn store_by(rule: PutRule, words: &mut [u32; 49], chip: &Chip, at: Place, word: u32)
+fn store_by(rule: PutRule, words: &mut Words, chip: &Chip, at: Place, word: u32)
     ensures { λ _. ⌜ now (words .exit) ≡ by-rule (now (chip .entry)) rule (now (words .entry)) (at .index) word ⌝ }
 {
     match rule {
@@ -125,17 +130,17 @@ fn store_by(rule: PutRule, words: &mut [u32; 49], chip: &Chip, at: Place, word: 
 }
 
 /// A put: the words after it, by the rule of its place.
-pub(crate) fn store(words: &mut [u32; 49], chip: &Chip, at: Place, word: u32)
+pub(crate) fn store(words: &mut Words, chip: &Chip, at: Place, word: u32)
     ensures { λ _. ⌜ now (words .exit) ≡ stored (now (chip .entry)) (now (words .entry)) (at .index) word ⌝ }
 {
     store_by(rule_at(at), words, chip, at, word);
 }
 
 /// The words of a new block.
-pub(crate) fn new_words(chip: &Chip) -> [u32; 49]
+pub(crate) fn new_words(chip: &Chip) -> Words
     ensures { λ r. ⌜ r ≡ new-words (now (chip .entry)) ⌝ }
 {
-    let mut words = [0; 49];
+    let mut words = [0; PLACES];
     words[0] = chip.reset.config;
     words[9] = chip.reset.config;
     words[18] = chip.reset.wdtconfig0;
@@ -146,7 +151,7 @@ pub(crate) fn new_words(chip: &Chip) -> [u32; 49]
 }
 
 /// The words as they are; for the proof, that an array has one for each place.
-pub(crate) fn copy(words: &[u32; 49]) -> [u32; 49]
+pub(crate) fn copy(words: &Words) -> Words
     ensures value { λ r. ⌜ r ≡ now (words .entry) ⌝ }
     ensures sized { λ _. ⌜ length (now (words .entry)) ≡ place-count ⌝ }
 {
@@ -154,7 +159,7 @@ pub(crate) fn copy(words: &[u32; 49]) -> [u32; 49]
 }
 
 /// The word at a place of the words that `Block::words` gives.
-pub fn word_at(words: &[u32; 49], at: Place) -> u32
+pub fn word_at(words: &Words, at: Place) -> u32
     ensures { λ r. ⌜ r ≡ getD (now (words .entry)) (at .index) 0 ⌝ }
 {
     let index = at.index() as usize;
@@ -162,7 +167,7 @@ pub fn word_at(words: &[u32; 49], at: Place) -> u32
 }
 
 /// A watchdog's word there: to read it, its protection need not be open.
-pub fn watchdog_word(words: &[u32; 49], register: WatchdogRegister) -> u32
+pub fn watchdog_word(words: &Words, register: WatchdogRegister) -> u32
     ensures { λ r. ⌜ r ≡ getD (now (words .entry)) (watchdog-place register) 0 ⌝ }
 {
     word_at(words, Place::watchdog(register))

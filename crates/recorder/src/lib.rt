@@ -15,6 +15,7 @@ use block::parts::Handles;
 use block::place::Place;
 use block::register_file::RegisterFile;
 use block::register_file::RegisterFileBlock;
+use block::words::Words;
 
 #[cfg(test)]
 mod tests;
@@ -94,7 +95,7 @@ pub impl<'a> Block for Recorder<'a> as RecorderBlock {
         self.puts = puts.saturating_add(1);
     }
 
-    fn words(&self) -> [u32; 49] {
+    fn words(&self) -> Words {
         self.file.words()
     }
 }

@@ -22,6 +22,7 @@ use base::registers::TimerRegister;
 use base::registers::WatchdogRegister;
 use block::access::Block;
 use block::place::Place;
+use block::words::Words;
 use block::words::watchdog_word;
 use block::words::word_at;
 
@@ -38,7 +39,7 @@ fn timing(run: bool, repeat: bool, due: u64) -> Timing
     }
 }
 
-fn due_of_timer(words: &[u32; 49], number: TimerNumber) -> u64
+fn due_of_timer(words: &Words, number: TimerNumber) -> u64
     ensures { λ r. ⌜ r ≡ timer-due number (now (words .entry)) ⌝ }
 {
     let high = word_at(words, Place::timer(number, TimerRegister::AlarmHi));
@@ -46,7 +47,7 @@ fn due_of_timer(words: &[u32; 49], number: TimerNumber) -> u64
     u64::from(high) * 0x1_0000_0000 + u64::from(low)
 }
 
-fn timer_listens(chip: &Chip, words: &[u32; 49], number: TimerNumber) -> bool
+fn timer_listens(chip: &Chip, words: &Words, number: TimerNumber) -> bool
     ensures { λ r. ⌜ r ≡ timer-listening (now (chip .entry)) number (now (words .entry)) ⌝ }
 {
     if chip.level {
@@ -60,7 +61,7 @@ fn timer_listens(chip: &Chip, words: &[u32; 49], number: TimerNumber) -> bool
 }
 
 /// The setting of a group timer.
-pub fn timer_setting(chip: &Chip, words: &[u32; 49], number: TimerNumber) -> TimerSetting
+pub fn timer_setting(chip: &Chip, words: &Words, number: TimerNumber) -> TimerSetting
     ensures { λ r. ⌜ r ≡ timer-setting (now (chip .entry)) number (now (words .entry)) ⌝ }
 {
     let config = word_at(words, Place::timer(number, TimerRegister::Config));
@@ -75,7 +76,7 @@ pub fn timer_setting(chip: &Chip, words: &[u32; 49], number: TimerNumber) -> Tim
     }
 }
 
-fn due_of_alarm(words: &[u32; 49], number: AlarmNumber, origin: u64) -> u64
+fn due_of_alarm(words: &Words, number: AlarmNumber, origin: u64) -> u64
     ensures { λ r. ⌜ r ≡ alarm-due origin number (now (words .entry)) ⌝ }
 {
     let conf = word_at(words, Place::alarm(number, AlarmRegister::TargetConf));
@@ -89,7 +90,7 @@ fn due_of_alarm(words: &[u32; 49], number: AlarmNumber, origin: u64) -> u64
 }
 
 /// The setting of an alarm whose delay began at the system count `origin`.
-pub fn alarm_setting(words: &[u32; 49], number: AlarmNumber, origin: u64) -> TimerSetting
+pub fn alarm_setting(words: &Words, number: AlarmNumber, origin: u64) -> TimerSetting
     ensures { λ r. ⌜ r ≡ alarm-setting origin number (now (words .entry)) ⌝ }
 {
     let channel = number.index();
@@ -135,7 +136,7 @@ fn actions(config: u32) -> Actions
 }
 
 /// The setting of the watchdog.
-pub fn watchdog_setting(words: &[u32; 49]) -> WatchdogSetting
+pub fn watchdog_setting(words: &Words) -> WatchdogSetting
     ensures { λ r. ⌜ r ≡ watchdog-setting (now (words .entry)) ⌝ }
 {
     let config = watchdog_word(words, WatchdogRegister::Config0);

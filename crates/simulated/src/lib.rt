@@ -15,6 +15,7 @@ use block::parts::Handles;
 use block::place::Place;
 use block::register_file::RegisterFile;
 use block::register_file::RegisterFileBlock;
+use block::words::Words;
 
 /// What an alarm keeps beside its registers: how far it is into its period.
 #[derive(Clone, Copy)]
@@ -78,7 +79,7 @@ pub impl Block for SimulatedBlock as SimulatedBlockBlock {
         restart(&mut self.comparators, at);
     }
 
-    fn words(&self) -> [u32; 49] {
+    fn words(&self) -> Words {
         self.file.words()
     }
 }
