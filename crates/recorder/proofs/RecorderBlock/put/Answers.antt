@@ -5,7 +5,7 @@ use Rattle.recorder.proofs.RecorderBlock.put.Goals as goal
 pub returns : goal.returns
 returns c = record {
   meaning = c.put.ensures;
-  puts = c.saturating-add-self.ensures ∙ puts_put _ _ _;
+  puts = c.saturating_add-self.ensures ∙ puts_put _ _ _;
   list = c.note.ensures ∙ list_put _ _ _ _;
   lent = refl;
 }

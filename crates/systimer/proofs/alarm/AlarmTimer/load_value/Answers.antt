@@ -7,8 +7,8 @@ use Rattle.systimer.proofs.alarm.AlarmTimer.load_value.Goals as goal
 
 pub returns-in-default : goal.returns-in-default
 returns-in-default g c =
-    let repeat = simp (c.read-conf.ensures.word, c.place.ensures) at c.is-set-repeat.ensures in
-    let ticks = simp (repeat, c.system-mhz-ticks-per-micro.ensures, c.chip.ensures) at c.timeout-to-ticks.ensures in
+    let repeat = simp (c.read-conf.ensures.word, c.place.ensures) at c.is_set-repeat.ensures in
+    let ticks = simp (repeat, c.system_mhz-ticks_per_micro.ensures, c.chip.ensures) at c.timeout_to_ticks.ensures in
     record {
       called = alarm_call g.B.Block.model (Load _) c.read-conf.ensures.did (rw (c.place.ensures, ← ticks, c.in-default.is)) (rw (← ticks, c.in-default.is));
       answer = rw (← ticks, c.in-default.is);
@@ -17,9 +17,9 @@ returns-in-default g c =
 pub returns-then-repeat : goal.returns-then-repeat
 returns-then-repeat g c =
     let b = g.B.Block.model in
-    let repeat = simp (c.read-conf.ensures.word, c.place.ensures) at c.is-set-repeat.ensures in
-    let ticks = simp (repeat, c.system-mhz-ticks-per-micro.ensures, c.chip.ensures) at c.timeout-to-ticks.ensures in
-    let done = performed_then b c.read-conf.ensures.did c.set-period.ensures in
+    let repeat = simp (c.read-conf.ensures.word, c.place.ensures) at c.is_set-repeat.ensures in
+    let ticks = simp (repeat, c.system_mhz-ticks_per_micro.ensures, c.chip.ensures) at c.timeout_to_ticks.ensures in
+    let done = performed_then b c.read-conf.ensures.did c.set_period.ensures in
     record {
       called = alarm_call b (Load _) done (rw (c.place.ensures, ← ticks, c.in-Some.is, ← repeat, c.if-repeat.true)) (rw (← ticks, c.in-Some.is, ← repeat, c.if-repeat.true));
       answer = rw (← ticks, c.in-Some.is, ← repeat, c.if-repeat.true);
@@ -28,8 +28,8 @@ returns-then-repeat g c =
 pub returns-in-err-count : goal.returns-in-err-count
 returns-in-err-count g c =
     let b = g.B.Block.model in
-    let repeat = simp (c.read-conf.ensures.word, c.place.ensures) at c.is-set-repeat.ensures in
-    let ticks = simp (repeat, c.system-mhz-ticks-per-micro.ensures, c.chip.ensures) at c.timeout-to-ticks.ensures in
+    let repeat = simp (c.read-conf.ensures.word, c.place.ensures) at c.is_set-repeat.ensures in
+    let ticks = simp (repeat, c.system_mhz-ticks_per_micro.ensures, c.chip.ensures) at c.timeout_to_ticks.ensures in
     let m1 = read_keeps b c.read-conf.ensures.did in
     let read = simp m1 at c.in-err-count.ensures.answer in
     let found = was_refused (b.means c.args.block.now) _ read in
@@ -43,13 +43,13 @@ returns-in-err-count g c =
 pub returns : goal.returns
 returns g c =
     let b = g.B.Block.model in
-    let repeat = simp (c.read-conf.ensures.word, c.place.ensures) at c.is-set-repeat.ensures in
-    let ticks = simp (repeat, c.system-mhz-ticks-per-micro.ensures, c.chip.ensures) at c.timeout-to-ticks.ensures in
+    let repeat = simp (c.read-conf.ensures.word, c.place.ensures) at c.is_set-repeat.ensures in
+    let ticks = simp (repeat, c.system_mhz-ticks_per_micro.ensures, c.chip.ensures) at c.timeout_to_ticks.ensures in
     let m1 = read_keeps b c.read-conf.ensures.did in
     let read = simp m1 at c.in-ok-count.ensures.answer in
     let found = was_answered (b.means c.args.block.now) _ read in
-    let done = performed_then b c.read-conf.ensures.did (performed_then b c.in-ok-count.ensures.did c.set-target.ensures) in
+    let done = performed_then b c.read-conf.ensures.did (performed_then b c.in-ok-count.ensures.did c.set_target.ensures) in
     record {
-      called = alarm_call b (Load _) done (rw (c.place.ensures, c.target-after.ensures.value, found.1, ← ticks, c.in-Some.is, ← repeat, c.if-repeat.false, m1, found.0)) (rw (← ticks, c.in-Some.is, ← repeat, c.if-repeat.false, found.0, found.1));
+      called = alarm_call b (Load _) done (rw (c.place.ensures, c.target_after.ensures.value, found.1, ← ticks, c.in-Some.is, ← repeat, c.if-repeat.false, m1, found.0)) (rw (← ticks, c.in-Some.is, ← repeat, c.if-repeat.false, found.0, found.1));
       answer = rw (← ticks, c.in-Some.is, ← repeat, c.if-repeat.false, found.0);
     }

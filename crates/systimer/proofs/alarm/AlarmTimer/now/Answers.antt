@@ -21,5 +21,5 @@ returns g c =
     let found = was_answered (b.means c.args.block.now) _ c.in-ok-count.ensures.answer in
     record {
       called = alarm_call b AskNow c.in-ok-count.ensures.did refl refl;
-      answer = rw (c.count-to-instant.ensures, c.system-mhz-ticks-per-micro.ensures, c.chip.ensures, found.0, found.1);
+      answer = rw (c.count_to_instant.ensures, c.system_mhz-ticks_per_micro.ensures, c.chip.ensures, found.0, found.1);
     }

@@ -6,5 +6,5 @@ use Rattle.timg.proofs.group_timer.GroupTimerTimer.is_interrupt_set.Goals as goa
 pub returns : goal.returns
 returns g c = record {
   called = group_call g.B.Block.model AskPending c.read.ensures.did (rw c.group.ensures) refl;
-  answer = rw (c.is-set.ensures, c.read.ensures.word, c.group.ensures, c.index.ensures.value, c.number.ensures);
+  answer = rw (c.is_set.ensures, c.read.ensures.word, c.group.ensures, c.index.ensures.value, c.number.ensures);
 }

@@ -6,5 +6,5 @@ use Rattle.timg.proofs.group_timer.GroupTimerTimer.is_running.Goals as goal
 pub returns : goal.returns
 returns g c = record {
   called = group_call g.B.Block.model AskRunning c.read.ensures.did (rw c.place.ensures) refl;
-  answer = rw (c.is-set.ensures, c.read.ensures.word, c.place.ensures);
+  answer = rw (c.is_set.ensures, c.read.ensures.word, c.place.ensures);
 }

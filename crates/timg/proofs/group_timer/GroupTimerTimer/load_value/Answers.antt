@@ -6,7 +6,7 @@ use Rattle.timg.proofs.group_timer.GroupTimerTimer.load_value.Goals as goal
 
 pub returns-in-default : goal.returns-in-default
 returns-in-default g c =
-    let ticks = simp (c.read-config.ensures.word, c.place.ensures, c.chip-clock.ensures) at c.timeout-to-ticks.ensures in
+    let ticks = simp (c.read-config.ensures.word, c.place.ensures, c.chip-clock.ensures) at c.timeout_to_ticks.ensures in
     record {
       called = group_call g.B.Block.model (Load _) c.read-config.ensures.did (rw (c.place.ensures, ← ticks, c.in-default.is)) refl;
       answer = rw (← ticks, c.in-default.is);
@@ -15,7 +15,7 @@ returns-in-default g c =
 pub returns : goal.returns
 returns g c =
     let b = g.B.Block.model in
-    let ticks = simp (c.read-config.ensures.word, c.place.ensures, c.chip-clock.ensures) at c.timeout-to-ticks.ensures in
+    let ticks = simp (c.read-config.ensures.word, c.place.ensures, c.chip-clock.ensures) at c.timeout_to_ticks.ensures in
     let done = performed_then b c.read-config.ensures.did (performed_then b c.write.ensures c.write-2.ensures) in
     record {
       called = group_call b (Load _) done (rw (c.place.ensures, c.place-2.ensures, c.place-3.ensures, ← ticks, c.in-Some.is)) refl;
