@@ -14,14 +14,14 @@ returns g c =
       kept_due = due_kept _ _ c.args.repeat ready;
     }
 
-pub returns-in-err-load_value : goal.returns-in-err-load_value
-returns-in-err-load_value g c =
+pub returns-in_err-load_value : goal.returns-in_err-load_value
+returns-in_err-load_value g c =
     let ready = prepared _ _ c.halt.ensures c.clear_interrupt.ensures c.reset.ensures in
     let reloaded = c.enable_auto_reload.ensures in
-    let e = c.in-err-load_value.field-0.0 in
-    let ends = load_ends _ _ c.args.repeat ready (micros c.args.timeout) reloaded (refusal e) c.in-err-load_value.ensures.answer in
+    let e = c.in_err-load_value.field-0.0 in
+    let ends = load_ends _ _ c.args.repeat ready (micros c.args.timeout) reloaded (refusal e) c.in_err-load_value.ensures.answer in
     record {
-      made = made_armed _ _ c.args.repeat c.args.timeout (told c.from-residual.result e c.from-residual.ensures.1 ends)
+      made = made_armed _ _ c.args.repeat c.args.timeout (told c.from_residual.result e c.from_residual.ensures.1 ends)
           (refused _ _ c.args.repeat ready (micros c.args.timeout) reloaded c.load_value.ensures.called e ends);
       kept_due = due_kept _ _ c.args.repeat ready;
     }

@@ -4,12 +4,12 @@ use Rattle.timer.specs.Kinds.{Load}
 use Rattle.timg.proofs.Calling.{group_call}
 use Rattle.timg.proofs.group_timer.GroupTimerTimer.load_value.Goals as goal
 
-pub returns-in-default : goal.returns-in-default
-returns-in-default g c =
+pub returns-in_default : goal.returns-in_default
+returns-in_default g c =
     let ticks = simp (c.read-config.ensures.word, c.place.ensures, c.chip-clock.ensures) at c.timeout_to_ticks.ensures in
     record {
-      called = group_call g.B.Block.model (Load _) c.read-config.ensures.did (rw (c.place.ensures, ← ticks, c.in-default.is)) refl;
-      answer = rw (← ticks, c.in-default.is);
+      called = group_call g.B.Block.model (Load _) c.read-config.ensures.did (rw (c.place.ensures, ← ticks, c.in_default.is)) refl;
+      answer = rw (← ticks, c.in_default.is);
     }
 
 pub returns : goal.returns
