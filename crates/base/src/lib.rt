@@ -1,4 +1,6 @@
 // What every layer rests on: chips and their profiles, the names of registers, bits, and refusals.
+#![tactic(auto)]
+
 pub mod bits;
 pub mod chip;
 pub mod error;

@@ -1,5 +1,5 @@
 -- The put rule: what a put leaves in the words. Assumes nothing.
-use Rattle.std.specs.Prelude.{ℕ, ◌+◌, ◌%◌, ◌^◌, cond, List, [], ◌∷◌, ◌++◌, set, ◌==◌, bit_and, bit_xor, slice_index, slice_index_or, slice_set}
+use Rattle.std.specs.Prelude.{ℕ, ◌%◌, ◌^◌, cond, List, [], ◌∷◌, ◌++◌, ◌==◌, bit_and, bit_xor, slice_index, slice_index_or, slice_set}
 use Rattle.block.specs.Places.{timer_place, group_place, system_place, protection_place}
 use Rattle.base.specs.declared.chip.Chip.{Chip}
 use Rattle.base.specs.declared.numbers.TimerNumber.{TimerNumber}

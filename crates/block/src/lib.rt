@@ -1,4 +1,6 @@
 // The register block of the timers, the alarms and the watchdog.
+#![tactic(auto)]
+
 pub mod access;
 pub mod parts;
 pub mod place;

@@ -1,4 +1,6 @@
 // The register block on examples: its refusals at their edges, the recorder around a full list, the protection.
+#![tactic(auto)]
+
 ghost use Rattle.std.specs.Prelude.{[], ◌∷◌};
 ghost use Rattle.block.specs.Accesses.{Put};
 ghost use Rattle.block.specs.Places.{protection_place, watchdog_place};

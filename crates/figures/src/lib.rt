@@ -1,4 +1,6 @@
 // Figures that the documents give, each the contract of a function that works it out.
+#![tactic(auto)]
+
 ghost use Rattle.std.specs.Prelude.{◌≡◌, ◌-◌, ◌*◌, ◌/◌, ◌^◌, Some, None};
 
 use systimer::alarm::{target_after, timeout_to_ticks as alarm_ticks};

@@ -1,5 +1,7 @@
 // Reads a job from standard input, a call to a line, makes its calls on a new recorder of the bench unit and prints what
 // came of them. With a path as argument it writes the puts there, as a write list.
+#![tactic(auto)]
+
 mod lines;
 
 use anyhow::anyhow;

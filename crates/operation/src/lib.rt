@@ -1,4 +1,6 @@
 // The operations on a register, each of one or two accesses.
+#![tactic(auto)]
+
 ghost use Rattle.std.specs.Prelude.{◌≡◌, [], ◌∷◌, slice_index};
 ghost use Rattle.operation.specs.Operations.{Read, Write, Modify, switched, Performed};
 

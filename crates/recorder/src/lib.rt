@@ -1,4 +1,6 @@
 // A block that also writes each put as a record into a list that its caller lends.
+#![tactic(auto)]
+
 ghost use Rattle.std.specs.Prelude.{◌≡◌, ◌+◌, ◌≤◌, ◌++◌, length, take, drop};
 ghost use Rattle.block.specs.Accesses.{new_block};
 ghost use Rattle.block.specs.Parts.{handles_of};

@@ -1,4 +1,6 @@
 // Reads a write list from standard input and prints what it sets on a new block of the bench unit.
+#![tactic(auto)]
+
 use anyhow::anyhow;
 use base::profile::Profile;
 use std::io;

@@ -1,4 +1,6 @@
 // A block that plays the timers on a bench. Time does not pass in it yet.
+#![tactic(auto)]
+
 ghost use Rattle.std.specs.Prelude.{◌≡◌, replicate};
 ghost use Rattle.block.specs.Accesses.{new_block, with_word};
 ghost use Rattle.block.specs.Parts.{handles_of};

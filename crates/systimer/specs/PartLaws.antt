@@ -3,7 +3,7 @@ use Rattle.std.specs.Prelude.{◌≡◌, ℕ, zero, suc, ◌-◌, Bool, true, fa
 use Rattle.std.proofs.Common.{ap}
 use Rattle.base.specs.Bits.{bit}
 use Rattle.base.specs.Numbers.{alarm_number}
-use Rattle.base.specs.Chips.{Valid as Within-limits}
+use Rattle.base.specs.Chips.{Valid as WithinLimits}
 use Rattle.block.specs.Accesses.{Meaning, new_block}
 use Rattle.block.specs.Places.{place_count}
 use Rattle.block.specs.Puts.{without}
@@ -193,7 +193,7 @@ alarm_drift n origin m k d =
     }
 
 -- on a new block an alarm neither runs nor listens
-pub alarm_idle : (n : AlarmNumber) (origin : ℕ) (chip : Chip) → Within-limits chip → (alarm_view n origin (new_block chip)).run ≡ false
+pub alarm_idle : (n : AlarmNumber) (origin : ℕ) (chip : Chip) → WithinLimits chip → (alarm_view n origin (new_block chip)).run ≡ false
 alarm_idle Zero origin chip h = bit_same chip.reset.conf 0 0x01C00000 h.2.2 24 refl refl
 alarm_idle One origin chip h = bit_same chip.reset.conf 0 0x01C00000 h.2.2 23 refl refl
 alarm_idle Two origin chip h = bit_same chip.reset.conf 0 0x01C00000 h.2.2 22 refl refl

@@ -1,5 +1,5 @@
 -- What a call makes of an alarm. These are proofs, with nothing in them to believe.
-use Rattle.std.specs.Prelude.{◌≡◌, ℕ, ◌+◌, ◌-◌, ◌*◌, ◌/◌, ◌%◌, ◌^◌, ◌<◌, Bool, true, false, cond, Some, None, bit_or, nat_lt, refl}
+use Rattle.std.specs.Prelude.{◌≡◌, ℕ, ◌+◌, ◌*◌, ◌/◌, ◌%◌, ◌^◌, ◌<◌, Bool, true, false, cond, Some, None, bit_or, nat_lt, refl}
 use Rattle.std.proofs.Common.{ap, ◌∙◌, arith, ltb-true}
 use Rattle.std.specs.Int.Bits.{and_zero_r, or_zero_l}
 use Rattle.base.specs.Bits.{bit, field}

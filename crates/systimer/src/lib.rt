@@ -1,2 +1,4 @@
 // The system timer: its alarms.
+#![tactic(auto)]
+
 pub mod alarm;

@@ -2,6 +2,7 @@
 //!
 //! A result that its type cannot hold, and a quotient by 0, is `None`. Only the difference of two
 //! instants wraps, and only the `saturating_` calls stop at the ends.
+#![tactic(auto)]
 
 mod duration;
 mod instant;

@@ -1,6 +1,6 @@
 -- What every kind of timer says of itself, and what it owes. Assumes nothing.
 use Rattle.std.specs.Prelude.{◌≡◌, ℕ, Bool, true, false, List, length, Some, Result, ◌≢◌}
-use Rattle.base.specs.Chips.{Valid as Within-limits}
+use Rattle.base.specs.Chips.{Valid as WithinLimits}
 use Rattle.block.specs.Accesses.{Access, Meaning, after, new_block}
 use Rattle.block.specs.Places.{place_count, group_place}
 use Rattle.base.specs.declared.chip.Chip.{Chip}
@@ -76,5 +76,5 @@ pub record Kind (K : Type 0) : Type 0 where
   -- where every count can be read, it is open
   pub can_open : (h : K) (m : Meaning) (b : Bool) → word m (group_place Valid) ≡ 7 → (view h m).is_open b ≡ true
   -- on a new block it neither runs nor listens
-  pub new_idle : (h : K) (chip : Chip) → Within-limits chip → (view h (new_block chip)).run ≡ false
-  pub new_silent : (h : K) (chip : Chip) → Within-limits chip → (view h (new_block chip)).listening ≡ false
+  pub new_idle : (h : K) (chip : Chip) → WithinLimits chip → (view h (new_block chip)).run ≡ false
+  pub new_silent : (h : K) (chip : Chip) → WithinLimits chip → (view h (new_block chip)).listening ≡ false

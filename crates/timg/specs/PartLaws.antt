@@ -3,7 +3,7 @@ use Rattle.std.specs.Prelude.{◌≡◌, ℕ, zero, suc, Bool, true, false, cond
 use Rattle.std.proofs.Common.{ap, ◌∙◌}
 use Rattle.base.specs.Bits.{bit}
 use Rattle.base.specs.Numbers.{timer_number}
-use Rattle.base.specs.Chips.{Valid as Within-limits}
+use Rattle.base.specs.Chips.{Valid as WithinLimits}
 use Rattle.block.specs.Accesses.{Meaning, new_block}
 use Rattle.block.specs.Places.{place_count}
 use Rattle.operation.proofs.Masks.{bit_changed, bit_without, bit_same, field_same}
@@ -144,7 +144,7 @@ timer_drift n m k d = record {
 }
 
 -- on a new block a timer neither runs nor listens
-pub timer_idle : (n : TimerNumber) (chip : Chip) → Within-limits chip → (timer_view n (new_block chip)).run ≡ false
+pub timer_idle : (n : TimerNumber) (chip : Chip) → WithinLimits chip → (timer_view n (new_block chip)).run ≡ false
 timer_idle Zero chip h = bit_same chip.reset.config 0 0x80000800 h.2.0 31 refl refl
 timer_idle One chip h = bit_same chip.reset.config 0 0x80000800 h.2.0 31 refl refl
 
@@ -152,6 +152,6 @@ either_way : (level : Bool) → cond level false false ≡ false
 either_way true = refl
 either_way false = refl
 
-pub timer_silent : (n : TimerNumber) (chip : Chip) → Within-limits chip → (timer_view n (new_block chip)).listening ≡ false
+pub timer_silent : (n : TimerNumber) (chip : Chip) → WithinLimits chip → (timer_view n (new_block chip)).listening ≡ false
 timer_silent Zero chip h = ap (λ (b : Bool). cond chip.level b false) (bit_same chip.reset.config 0 0x80000800 h.2.0 11 refl refl) ∙ either_way chip.level
 timer_silent One chip h = ap (λ (b : Bool). cond chip.level b false) (bit_same chip.reset.config 0 0x80000800 h.2.0 11 refl refl) ∙ either_way chip.level

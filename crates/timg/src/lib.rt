@@ -1,2 +1,4 @@
 // The timer group: its timers.
+#![tactic(auto)]
+
 pub mod group_timer;

@@ -1,5 +1,5 @@
 -- One access of a logged block.
-use Rattle.std.proofs.Common.{◌≡◌, ℕ, [], ◌∷◌, refl, ap, ◌∙◌}
+use Rattle.std.proofs.Common.{◌≡◌, ℕ, [], ◌∷◌, ap, ◌∙◌}
 use Rattle.block.specs.Accesses.{Get, Put}
 use Rattle.vectors.specs.Logging.{noted, log_after}
 use Rattle.vectors.specs.declared.access_log.Access.TheVariants.{Get as Got, Put as Has-put}

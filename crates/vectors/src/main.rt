@@ -1,4 +1,6 @@
 // Reads vectors from standard input, the Rust crate's own answers, and holds the port to each.
+#![tactic(auto)]
+
 mod access_log;
 mod answer;
 mod bench;

@@ -1,12 +1,11 @@
 -- The derived `==` of settings says whether they are equal.
-use Rattle.std.proofs.Common.{◌≡◌, ℕ, Bool, true, false, ◌&&◌, Decides, Some, None, Option, refl, sym, ap, subst, arith, rules}
+use Rattle.std.proofs.Common.{◌≡◌, true, Decides, Some, None, Option, refl, ap, subst, arith, rules}
 use Rattle.std.proofs.lemmas.Bool.Decides.{nat_tests, Decides-like, Decides-and}
 use Rattle.std.specs.Option.{option_eq}
 use denote.Enum.Bare.{same_true}
 use Rattle.setting.specs.declared.kinds.Timing.{Timing}
 use Rattle.setting.specs.declared.kinds.Timing.TheVariants.{Idle, Once, Again}
 use Rattle.setting.specs.declared.kinds.StageAction.{StageAction}
-use Rattle.setting.specs.declared.kinds.StageAction.TheVariants.{Off, Interrupt, ResetCpu, ResetSystem}
 use Rattle.setting.specs.declared.kinds.TimerSetting.{TimerSetting}
 use Rattle.setting.specs.declared.kinds.Actions.{Actions}
 use Rattle.setting.specs.declared.kinds.Holds.{Holds}

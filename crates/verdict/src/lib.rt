@@ -1,4 +1,6 @@
 // The settings of a write list, and the verdict on two.
+#![tactic(auto)]
+
 ghost use Rattle.std.specs.Prelude.{◌≡◌, Ok, Err};
 ghost use Rattle.base.specs.Refusals.{outcome};
 ghost use Rattle.block.specs.Replays.{replay_outcome};

@@ -1,7 +1,6 @@
 -- A word is below 2 ^ 32, so that it has no bit from 32 on.
 use Rattle.std.proofs.Common.{◌≡◌, ◌/◌, ◌^◌, ◌≤◌, sym, ◌∙◌, arith, pow_mono, le-ltb}
 use native.Mathlib.Nat.{div-eq_of_lt}
-use Rattle.base.specs.Bits.{bit}
 use Rattle.base.proofs.bits.is_set.Goals as goal
 
 pub returns-else-n-lt32 : goal.returns-else-n-lt32
