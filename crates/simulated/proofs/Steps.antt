@@ -1,7 +1,5 @@
 -- One access of a simulated block.
-use mathlib.Core.List.{List, [], ◌∷◌}
-use mathlib.Core.Path.{◌≡◌, refl}
-use Prim.Native.Nat.{ℕ}
+use Rattle.std.proofs.Common.{◌≡◌, ℕ, List, [], ◌∷◌, refl}
 use Rattle.block.specs.Accesses.{Get, Put}
 use Rattle.simulated.specs.Comparators.{comparators_put, comparators_after}
 use Rattle.simulated.specs.declared.Comparator.{Comparator}

@@ -1,5 +1,5 @@
 -- The phases of the alarms. Assumes nothing.
-use Rattle.std.specs.Prelude.{cond, ◌&&◌, List, [], ◌∷◌, ℕ, ◌+◌, ◌-◌, leb, ltb, set}
+use Rattle.std.specs.Prelude.{cond, ◌&&◌, List, [], ◌∷◌, ℕ, ◌+◌, ◌-◌, nat_le, nat_lt, slice_set}
 use Rattle.block.specs.Places.{alarm_place}
 use Rattle.block.specs.Accesses.{Access, Get, Put}
 use Rattle.base.specs.declared.numbers.AlarmNumber.TheVariants.{Zero}
@@ -16,7 +16,7 @@ first_load = alarm_place Zero CompLoad
 
 -- A put at COMP_LOAD zeroes the phase of its alarm, and no other put changes a phase.
 abbrev pub comparators_put : List Comparator → ℕ → List Comparator
-comparators_put cs at = cond (leb first_load at && ltb at (first_load + 3)) (set cs (at - first_load) zero_phase) cs
+comparators_put cs at = cond (nat_le first_load at && nat_lt at (first_load + 3)) (slice_set cs (at - first_load) zero_phase) cs
 
 -- The comparators after accesses.
 unfoldable pub comparators_after : List Comparator → List Access → List Comparator

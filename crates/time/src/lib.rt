@@ -8,7 +8,6 @@ mod duration;
 mod instant;
 mod rate;
 
-// Another crate names each impl that it uses, so all are passed on with their types.
 pub use duration::Duration;
 pub use instant::Instant;
 pub use rate::Rate;

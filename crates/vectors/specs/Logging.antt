@@ -5,14 +5,14 @@ use Rattle.block.specs.Accesses.{Access, Get, Put, Meaning, after}
 use Rattle.block.specs.Model.{Model}
 use Rattle.block.specs.Files.{file_means, file_model, after_none, after-++}
 use Rattle.vectors.specs.declared.access_log.Access.{Access as Entry}
-use Rattle.vectors.specs.declared.access_log.Access.TheVariants.{Get as Got, Put as Has-put}
+use Rattle.vectors.specs.declared.access_log.Access.TheVariants.{Get as Got, Put as HasPut}
 use Rattle.vectors.specs.declared.access_log.AccessLog.{AccessLog}
 use Rattle.vectors.specs.declared.logged_block.LoggedBlock.{LoggedBlock}
 
 -- How an access stands in a log.
 abbrev pub entry_of : Access → Entry
 entry_of (Get at) = Got at
-entry_of (Put at w) = Has-put at w
+entry_of (Put at w) = HasPut at w
 
 -- A log keeps this many accesses.
 abbrev pub room : ℕ

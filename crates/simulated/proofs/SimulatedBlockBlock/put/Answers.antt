@@ -1,4 +1,4 @@
-use mathlib.Core.Path.{◌∙◌}
+use Rattle.std.proofs.Common.{◌∙◌}
 use Rattle.simulated.proofs.Steps.{comparators_one}
 use Rattle.simulated.proofs.SimulatedBlockBlock.put.Goals as goal
 
