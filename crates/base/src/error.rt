@@ -42,6 +42,8 @@ impl fmt::Display for Error {
     }
 }
 
+impl std::error::Error for Error {}
+
 impl Error {
     pub fn number(&self) -> u8
         ensures { result ≡ number_of self.now }

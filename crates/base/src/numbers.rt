@@ -17,27 +17,18 @@ pub enum AlarmNumber {
     Two,
 }
 
-impl TimerNumber {
-    pub fn index(self) -> u8
-        ensures value { result ≡ timer_number self }
-        ensures bound { result < 2 }
-    {
-        match self {
-            TimerNumber::Zero => 0,
-            TimerNumber::One => 1,
-        }
+impl From<TimerNumber> for u8 {
+    ghost from_gives = { λ timer number. (number ≡ timer_number timer) × (number < 2) };
+
+    fn from(timer: TimerNumber) -> u8 {
+        timer as u8
     }
 }
 
-impl AlarmNumber {
-    pub fn index(self) -> u8
-        ensures value { result ≡ alarm_number self }
-        ensures bound { result < 3 }
-    {
-        match self {
-            AlarmNumber::Zero => 0,
-            AlarmNumber::One => 1,
-            AlarmNumber::Two => 2,
-        }
+impl From<AlarmNumber> for u8 {
+    ghost from_gives = { λ alarm number. (number ≡ alarm_number alarm) × (number < 3) };
+
+    fn from(alarm: AlarmNumber) -> u8 {
+        alarm as u8
     }
 }

@@ -1,6 +1,6 @@
 // The names of the registers that anybody may reach.
 
-/// A register of one group timer.
+/// A register of one group timer, in the order of their places.
 #[derive(Clone, Copy)]
 pub enum TimerRegister {
     Config,
@@ -14,25 +14,25 @@ pub enum TimerRegister {
     Load,
 }
 
-/// A register that the group timers share, and VALID, our own.
+/// A register that the group timers share, and VALID, our own; with its place.
 #[derive(Clone, Copy)]
 pub enum GroupRegister {
-    IntEna,
-    IntRaw,
-    IntClr,
-    Valid,
+    IntEna = 26,
+    IntRaw = 27,
+    IntClr = 28,
+    Valid = 29,
 }
 
-/// A register of the system timer that its alarms share.
+/// A register of the system timer that its alarms share, with its place.
 #[derive(Clone, Copy)]
 pub enum SystemRegister {
-    Conf,
-    Unit0Hi,
-    Unit0Lo,
-    Unit0Op,
-    IntEna,
-    IntRaw,
-    IntClr,
+    Conf = 30,
+    Unit0Hi = 31,
+    Unit0Lo = 32,
+    Unit0Op = 33,
+    IntEna = 46,
+    IntRaw = 47,
+    IntClr = 48,
 }
 
 /// A register of one alarm.
@@ -44,14 +44,14 @@ pub enum AlarmRegister {
     CompLoad,
 }
 
-/// A register of the watchdog. Its places are protected: only the holder of an open protection puts there.
+/// A register of the watchdog, with its place. They are protected: only the holder of an open protection puts there.
 #[derive(Clone, Copy)]
 pub enum WatchdogRegister {
-    Config0,
-    Config1,
-    Config2,
-    Config3,
-    Config4,
-    Config5,
-    Feed,
+    Config0 = 18,
+    Config1 = 19,
+    Config2 = 20,
+    Config3 = 21,
+    Config4 = 22,
+    Config5 = 23,
+    Feed = 24,
 }

@@ -9,10 +9,10 @@ use Rattle.block.proofs.Arrays.{whole_is}
 use Rattle.base.specs.declared.chip.Chip.{Chip}
 use Rattle.block.specs.declared.parts.Handles.{Handles}
 
-pub put_meaning : (chip : Chip) (ws vs : List ℕ) (at w : ℕ) → length ws ≡ place_count → length vs ≡ place_count → vs ≡ stored chip ws at w
-    → ◌≡◌ {A = Meaning} (record { chip = chip; words = whole vs }) (after (record { chip = chip; words = whole ws }) (Put at w ∷ []))
+pub put_meaning : (chip kept : Chip) (ws vs : List ℕ) (at w : ℕ) → length ws ≡ place_count → length vs ≡ place_count → kept ≡ chip → vs ≡ stored chip ws at w
+    → ◌≡◌ {A = Meaning} (record { chip = kept; words = whole vs }) (after (record { chip = chip; words = whole ws }) (Put at w ∷ []))
 unfolding words_after
-put_meaning chip ws vs at w long long' e = rw (whole_is ws long, whole_is vs long', e)
+put_meaning chip kept ws vs at w long long' same e = rw (whole_is ws long, whole_is vs long', same, e)
 
 pub get_meaning : (m : Meaning) (at : ℕ) → m ≡ after m (Get at ∷ [])
 unfolding words_after

@@ -8,10 +8,10 @@ use Rattle.block.specs.declared.parts.Handles.{Handles}
 -- One handle for each part, each with its own number; timer 1 only where the chip has two timers.
 abbrev pub handles_of : Chip → Handles
 handles_of chip = record {
-  timer0 = record { timer = Zero };
-  timer1 = cond (chip.timers == 2) (Some (record { timer = One })) None;
-  alarm0 = record { alarm = Zero' };
-  alarm1 = record { alarm = One' };
-  alarm2 = record { alarm = Two' };
+  timer0 = record { number = Zero };
+  timer1 = cond (chip.timers == 2) (Some (record { number = One })) None;
+  alarm0 = record { number = Zero' };
+  alarm1 = record { number = One' };
+  alarm2 = record { number = Two' };
   watchdog = record { 0 = tt };
 }

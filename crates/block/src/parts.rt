@@ -5,31 +5,23 @@ ghost use Rattle.block.specs.Parts.{handles_of};
 use base::chip::Chip;
 use base::numbers::{AlarmNumber, TimerNumber};
 
-/// The right to use a group timer. Only making a block gives one, and it cannot be copied.
+/// The right to use the part with this number. Only making a block gives one, and it cannot be copied.
 #[derive(Drop)]
-pub struct TimerHandle {
-    timer: TimerNumber,
+pub struct Handle<N> {
+    number: N,
 }
 
-impl TimerHandle {
-    pub fn number(&self) -> TimerNumber
-        ensures { result ≡ self.now.timer }
-    {
-        self.timer
-    }
-}
+/// The right to use a group timer.
+pub type TimerHandle = Handle<TimerNumber>;
 
 /// The right to use an alarm.
-#[derive(Drop)]
-pub struct AlarmHandle {
-    alarm: AlarmNumber,
-}
+pub type AlarmHandle = Handle<AlarmNumber>;
 
-impl AlarmHandle {
-    pub fn number(&self) -> AlarmNumber
-        ensures { result ≡ self.now.alarm }
+impl<N: Copy> Handle<N> {
+    pub fn number(&self) -> N
+        ensures { result ≡ self.now.number }
     {
-        self.alarm
+        self.number
     }
 }
 
@@ -52,26 +44,22 @@ impl Handles {
     pub(crate) fn new(chip: &Chip) -> Handles
         ensures { result ≡ handles_of chip.now }
     {
-        let timer1 = if chip.timers == 2 {
-            Some(TimerHandle {
-                timer: TimerNumber::One,
-            })
-        } else {
-            None
+        let timer1 = Handle {
+            number: TimerNumber::One,
         };
         Handles {
-            timer0: TimerHandle {
-                timer: TimerNumber::Zero,
+            timer0: Handle {
+                number: TimerNumber::Zero,
             },
-            timer1,
-            alarm0: AlarmHandle {
-                alarm: AlarmNumber::Zero,
+            timer1: (chip.timers == 2).then_some(timer1),
+            alarm0: Handle {
+                number: AlarmNumber::Zero,
             },
-            alarm1: AlarmHandle {
-                alarm: AlarmNumber::One,
+            alarm1: Handle {
+                number: AlarmNumber::One,
             },
-            alarm2: AlarmHandle {
-                alarm: AlarmNumber::Two,
+            alarm2: Handle {
+                number: AlarmNumber::Two,
             },
             watchdog: WatchdogHandle(()),
         }

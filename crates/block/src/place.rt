@@ -1,6 +1,6 @@
 // A place of a block: the index of one of its words.
 ghost use Rattle.std.specs.Prelude.{◌≡◌, ◌<◌};
-ghost use Rattle.block.specs.Places.{place_count, timer_place, group_place, system_place, alarm_place, watchdog_place};
+ghost use Rattle.block.specs.Places.{place_count, timer_place, group_place, system_place, alarm_place, watchdog_place, protection_place};
 
 use base::numbers::{AlarmNumber, TimerNumber};
 use base::registers::{
@@ -14,57 +14,37 @@ pub struct Place {
     ghost within: { index < place_count },
 }
 
+impl From<GroupRegister> for Place {
+    ghost from_gives = { λ register place. place.index ≡ group_place register };
+
+    fn from(register: GroupRegister) -> Place {
+        let index = register as u8;
+        Place { index }
+    }
+}
+
+impl From<SystemRegister> for Place {
+    ghost from_gives = { λ system place. place.index ≡ system_place system };
+
+    fn from(system: SystemRegister) -> Place {
+        let index = system as u8;
+        Place { index }
+    }
+}
+
 impl Place {
     pub fn timer(number: TimerNumber, register: TimerRegister) -> Place
         ensures { result.index ≡ timer_place number register }
     {
-        let offset = match register {
-            TimerRegister::Config => 0,
-            TimerRegister::Lo => 1,
-            TimerRegister::Hi => 2,
-            TimerRegister::Update => 3,
-            TimerRegister::AlarmLo => 4,
-            TimerRegister::AlarmHi => 5,
-            TimerRegister::LoadLo => 6,
-            TimerRegister::LoadHi => 7,
-            TimerRegister::Load => 8,
-        };
         Place {
-            index: 9 * number.index() + offset,
+            index: 9 * u8::from(number) + register as u8,
         }
-    }
-
-    pub fn group(register: GroupRegister) -> Place
-        ensures { result.index ≡ group_place register }
-    {
-        let index = match register {
-            GroupRegister::IntEna => 26,
-            GroupRegister::IntRaw => 27,
-            GroupRegister::IntClr => 28,
-            GroupRegister::Valid => 29,
-        };
-        Place { index }
-    }
-
-    pub fn system(register: SystemRegister) -> Place
-        ensures { result.index ≡ system_place register }
-    {
-        let index = match register {
-            SystemRegister::Conf => 30,
-            SystemRegister::Unit0Hi => 31,
-            SystemRegister::Unit0Lo => 32,
-            SystemRegister::Unit0Op => 33,
-            SystemRegister::IntEna => 46,
-            SystemRegister::IntRaw => 47,
-            SystemRegister::IntClr => 48,
-        };
-        Place { index }
     }
 
     pub fn alarm(number: AlarmNumber, register: AlarmRegister) -> Place
         ensures { result.index ≡ alarm_place number register }
     {
-        let channel = number.index();
+        let channel = u8::from(number);
         let index = match register {
             AlarmRegister::TargetHi => 34 + 2 * channel,
             AlarmRegister::TargetLo => 35 + 2 * channel,
@@ -74,24 +54,18 @@ impl Place {
         Place { index }
     }
 
+    // No `From`, which would be for all: these places are protected.
     pub(crate) fn watchdog(register: WatchdogRegister) -> Place
         ensures { result.index ≡ watchdog_place register }
     {
-        let index = match register {
-            WatchdogRegister::Config0 => 18,
-            WatchdogRegister::Config1 => 19,
-            WatchdogRegister::Config2 => 20,
-            WatchdogRegister::Config3 => 21,
-            WatchdogRegister::Config4 => 22,
-            WatchdogRegister::Config5 => 23,
-            WatchdogRegister::Feed => 24,
-        };
-        Place { index }
+        Place {
+            index: register as u8,
+        }
     }
 
     /// The place WDTWPROTECT.
     pub(crate) fn protection() -> Place
-        ensures { result.index ≡ 25 }
+        ensures { result.index ≡ protection_place }
     {
         Place { index: 25 }
     }

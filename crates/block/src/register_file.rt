@@ -1,15 +1,21 @@
 // The words of a block and nothing else: what every block of the bench keeps inside.
-ghost use Rattle.std.specs.Prelude.{◌≡◌};
+ghost use Rattle.std.specs.Prelude.{◌≡◌, length};
 ghost use Rattle.block.specs.Accesses.{new_block, with_word};
 ghost use Rattle.block.specs.Files.{file_means, file_model};
 ghost use Rattle.block.specs.Parts.{handles_of};
+ghost use Rattle.block.specs.Places.{place_count};
+ghost use Rattle.block.specs.Puts.{by_rule};
 
 use crate::access::Block;
 use crate::parts::Handles;
 use crate::place::Place;
-use crate::words::{Words, copy, new_words, store};
+use crate::words::{
+    CONFIRM, PutRule, Words, clear, clear_at, load, new_words, rule_at, store, store_protected,
+    word_at,
+};
 use base::chip::Chip;
 use base::profile::Profile;
+use base::registers::{GroupRegister, SystemRegister};
 
 #[derive(Drop)]
 pub struct RegisterFile {
@@ -32,8 +38,29 @@ impl RegisterFile {
     pub fn set(&mut self, at: Place, word: u32)
         ensures { file_means self.new ≡ with_word at.index word (file_means self.old) }
     {
-        let index = at.index() as usize;
-        self.words[index] = word;
+        store(&mut self.words, at, word);
+    }
+
+    // A put by a rule. For the proof, the words stay as many as there are places.
+    fn put_by(&mut self, rule: PutRule, at: Place, word: u32)
+        ensures chip { self.new.chip ≡ self.old.chip }
+        ensures words { self.new.words ≡ by_rule self.old.chip rule self.old.words at.index word }
+        ensures sized { length self.new.words ≡ place_count }
+    {
+        let words = &mut self.words;
+        match rule {
+            PutRule::Stores => store(words, at, word),
+            PutRule::Ignores => {}
+            PutRule::Loads(number) => load(words, number),
+            PutRule::ClearsGroup => clear_at(words, GroupRegister::IntRaw.into(), word),
+            PutRule::ClearsSystem => clear_at(words, SystemRegister::IntRaw.into(), word),
+            PutRule::Protected => store_protected(words, at, word),
+            PutRule::Confirmed if self.chip.confirm => {
+                store_protected(words, at, clear(word, CONFIRM));
+            }
+            PutRule::Confirmed => store_protected(words, at, word),
+            PutRule::TargetHigh => store(words, at, word % 0x10_0000),
+        }
     }
 }
 
@@ -45,15 +72,14 @@ impl Block for RegisterFile {
     }
 
     fn get(&mut self, at: Place) -> u32 {
-        self.words[at.index() as usize]
+        word_at(&self.words, at)
     }
 
     fn put(&mut self, at: Place, word: u32) {
-        let chip = self.chip;
-        store(&mut self.words, &chip, at, word);
+        self.put_by(rule_at(at), at, word);
     }
 
     fn words(&self) -> Words {
-        copy(&self.words)
+        self.words
     }
 }

@@ -1,13 +1,13 @@
 // The words of a block, and what a put leaves in them: one implementation for every block.
-ghost use Rattle.std.specs.Prelude.{◌≡◌, length, slice_index};
-ghost use Rattle.block.specs.Places.{place_count, watchdog_place};
-ghost use Rattle.block.specs.Puts.{rule_of, loaded, guarded, without, by_rule, stored};
+ghost use Rattle.std.specs.Prelude.{◌≡◌, slice_index, slice_set};
+ghost use Rattle.block.specs.Places.{watchdog_place};
+ghost use Rattle.block.specs.Puts.{rule_of, loaded, guarded, without, cleared};
 ghost use Rattle.block.specs.Accesses.{new_words};
 
 use crate::place::Place;
 use base::chip::Chip;
 use base::numbers::TimerNumber;
-use base::registers::WatchdogRegister;
+use base::registers::{GroupRegister, SystemRegister, TimerRegister, WatchdogRegister};
 
 /// How many words a block has.
 pub const PLACES: usize = 49;
@@ -53,81 +53,61 @@ const RULES: [PutRule; PLACES] = [
     Stores, Ignores, ClearsSystem,
 ];
 
-const INT_RAW: usize = 27;
-
-const SYS_INT_RAW: usize = 47;
-
-const PROTECTION: usize = 25;
-
 /// The word that opens the protection.
 pub(crate) const KEY: u32 = 0x50D8_3AA1;
 
-const CONFIRM: u32 = 0x40_0000;
+/// The confirming bit of WDTCONFIG0.
+pub(crate) const CONFIRM: u32 = 0x40_0000;
 
-fn rule_at(at: Place) -> PutRule
+pub(crate) fn rule_at(at: Place) -> PutRule
     ensures { result ≡ rule_of at.index }
 {
     RULES[at.index() as usize]
 }
 
-// The bits of `word` that `bits` has not.
-fn clear(word: u32, bits: u32) -> u32
+/// The bits of `word` that `bits` has not.
+pub(crate) fn clear(word: u32, bits: u32) -> u32
     ensures { result ≡ without word bits }
 {
     word ^ (word & bits)
 }
 
-// LOADLO and the low 22 bits of LOADHI become the count.
-fn load(words: &mut Words, number: TimerNumber)
+/// The place holds the word.
+pub(crate) fn store(words: &mut Words, at: Place, word: u32)
+    ensures { words.new ≡ slice_set words.old at.index word }
+{
+    words[at.index() as usize] = word;
+}
+
+/// LOADLO and the low 22 bits of LOADHI become the count.
+pub(crate) fn load(words: &mut Words, number: TimerNumber)
     ensures { words.new ≡ loaded number words.old }
 {
-    match number {
-        Zero => {
-            words[1] = words[6];
-            words[2] = words[7] % 0x40_0000;
-        }
-        One => {
-            words[10] = words[15];
-            words[11] = words[16] % 0x40_0000;
-        }
-    }
+    let low = word_at(words, Place::timer(number, TimerRegister::LoadLo));
+    let high = word_at(words, Place::timer(number, TimerRegister::LoadHi));
+    store(words, Place::timer(number, TimerRegister::Lo), low);
+    store(
+        words,
+        Place::timer(number, TimerRegister::Hi),
+        high % 0x40_0000,
+    );
 }
 
-fn store_protected(words: &mut Words, at: Place, word: u32)
+/// The place holds the word if the protection holds its key.
+pub(crate) fn store_protected(words: &mut Words, at: Place, word: u32)
     ensures { words.new ≡ guarded words.old at.index word }
 {
-    if words[PROTECTION] == KEY {
-        words[at.index() as usize] = word;
+    if word_at(words, Place::protection()) == KEY {
+        store(words, at, word);
     }
 }
 
-fn store_by(rule: PutRule, words: &mut Words, chip: &Chip, at: Place, word: u32)
-    ensures { words.new ≡ by_rule chip.now rule words.old at.index word }
+/// The bits of `bits` are cleared at the place.
+pub(crate) fn clear_at(words: &mut Words, raw: Place, bits: u32)
+    ensures { words.new ≡ cleared words.old raw.index bits }
 {
-    match rule {
-        Stores => words[at.index() as usize] = word,
-        Ignores => {}
-        Loads(number) => load(words, number),
-        ClearsGroup => words[INT_RAW] = clear(words[INT_RAW], word),
-        ClearsSystem => words[SYS_INT_RAW] = clear(words[SYS_INT_RAW], word),
-        Protected => store_protected(words, at, word),
-        Confirmed => {
-            let kept = if chip.confirm {
-                clear(word, CONFIRM)
-            } else {
-                word
-            };
-            store_protected(words, at, kept);
-        }
-        TargetHigh => words[at.index() as usize] = word % 0x10_0000,
-    }
-}
-
-/// A put: the words after it, by the rule of its place.
-pub(crate) fn store(words: &mut Words, chip: &Chip, at: Place, word: u32)
-    ensures { words.new ≡ stored chip.now words.old at.index word }
-{
-    store_by(rule_at(at), words, chip, at, word);
+    let word = word_at(words, raw);
+    store(words, raw, clear(word, bits));
 }
 
 /// The words of a new block.
@@ -135,21 +115,30 @@ pub(crate) fn new_words(chip: &Chip) -> Words
     ensures { result ≡ new_words chip.now }
 {
     let mut words = [0; PLACES];
-    words[0] = chip.reset.config;
-    words[9] = chip.reset.config;
-    words[18] = chip.reset.wdtconfig0;
-    words[19] = chip.reset.wdtconfig1;
-    words[29] = 7;
-    words[30] = chip.reset.conf;
+    let reset = chip.reset;
+    store(
+        &mut words,
+        Place::timer(Zero, TimerRegister::Config),
+        reset.config,
+    );
+    store(
+        &mut words,
+        Place::timer(One, TimerRegister::Config),
+        reset.config,
+    );
+    store(
+        &mut words,
+        Place::watchdog(WatchdogRegister::Config0),
+        reset.wdtconfig0,
+    );
+    store(
+        &mut words,
+        Place::watchdog(WatchdogRegister::Config1),
+        reset.wdtconfig1,
+    );
+    store(&mut words, GroupRegister::Valid.into(), 7);
+    store(&mut words, SystemRegister::Conf.into(), reset.conf);
     words
-}
-
-/// The words as they are; for the proof, that an array has one for each place.
-pub(crate) fn copy(words: &Words) -> Words
-    ensures value { result ≡ words.now }
-    ensures sized { length words.now ≡ place_count }
-{
-    *words
 }
 
 /// The word at a place of the words that `Block::words` gives.

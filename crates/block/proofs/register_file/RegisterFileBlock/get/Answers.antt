@@ -6,5 +6,5 @@ use Rattle.block.proofs.register_file.RegisterFileBlock.get.Goals as goal
 pub returns : goal.returns
 returns c = record {
   did = get_meaning _ _;
-  word = rw (whole_is c.args.self.now.words (omega arith), c.index.ensures.value);
+  word = rw (whole_is c.args.self.now.words (omega arith), c.word_at.ensures);
 }
