@@ -1,5 +1,6 @@
 -- The records of a write list, and what replaying it answers and puts. Assumes nothing.
-use Rattle.std.specs.Prelude.{ℕ, ◌+◌, ◌*◌, ◌/◌, ◌%◌, min, Bool, cond, ◌&&◌, ◌||◌, List, [], ◌∷◌, length, map, ◌==◌, nat_lt, slice_index}
+use Rattle.std.specs.Prelude.{ℕ, ◌/◌, ◌%◌, min, Bool, cond, ◌&&◌, ◌||◌, List, [], ◌∷◌, length, drop, map, ◌==◌, nat_lt, slice_index}
+use Rattle.std.specs.Int.{w32, from_le_bytes, to_le_bytes}
 use Rattle.std.specs.List.{prefix_len, take_while}
 use Rattle.std.specs.Simd.{first_chunks}
 use Rattle.block.specs.Places.{place_count}
@@ -12,11 +13,7 @@ most_records = 8192
 
 -- The eight bytes of a record: the place, three zeros, and the word from its lowest byte on.
 abbrev pub record_bytes : ℕ → ℕ → List ℕ
-record_bytes at w = at ∷ 0 ∷ 0 ∷ 0 ∷ (w % 256) ∷ (w / 256 % 256) ∷ (w / 65536 % 256) ∷ (w / 16777216 % 256) ∷ []
-
--- The word of four bytes, the lowest first.
-abbrev pub word_of : ℕ → ℕ → ℕ → ℕ → ℕ
-word_of a b c d = a + b * 256 + c * 65536 + d * 16777216
+record_bytes at w = at ∷ 0 ∷ 0 ∷ 0 ∷ to_le_bytes w32 w
 
 -- Eight bytes are a record where they begin with a place and three zeros.
 abbrev pub is_record : List ℕ → Bool
@@ -24,7 +21,7 @@ is_record r = ((nat_lt (slice_index r 0) place_count && slice_index r 1 == 0) &&
 
 -- The put that a record asks for.
 abbrev pub put_of : List ℕ → Access
-put_of r = Put (slice_index r 0) (word_of (slice_index r 4) (slice_index r 5) (slice_index r 6) (slice_index r 7))
+put_of r = Put (slice_index r 0) (from_le_bytes w32 (drop 4 r))
 
 -- A list by eight bytes.
 abbrev pub chunks_of : List ℕ → List (List ℕ)
