@@ -1,4 +1,3 @@
 pub mod Arrays
 pub mod Steps
 pub mod Chains
-pub mod Replaying

@@ -1,5 +1,6 @@
 -- What a block means, and what accesses make of it. Assumes nothing.
-use Rattle.std.specs.Prelude.{ℕ, List, [], ◌∷◌, ◌++◌, replicate, slice_set}
+use Rattle.std.specs.Prelude.{ℕ, List, ◌∷◌, ◌++◌, replicate, slice_set}
+use Rattle.std.specs.List.{fold}
 use Rattle.block.specs.Puts.{stored}
 use Rattle.base.specs.declared.chip.Chip.{Chip}
 
@@ -20,8 +21,7 @@ stepped chip ws (Put at w) = stored chip ws at w
 
 -- The words after accesses, one after another.
 unfoldable pub words_after : Chip → List ℕ → List Access → List ℕ
-words_after chip ws [] = ws
-words_after chip ws (x ∷ xs) = words_after chip (stepped chip ws x) xs
+words_after chip ws xs = fold (stepped chip) ws xs
 
 -- What a block means after accesses: its chip stays.
 abbrev pub after : Meaning → List Access → Meaning

@@ -1,11 +1,11 @@
 -- What a register file keeps as a block. The lemmas are proofs, with nothing in them to believe.
-use Rattle.std.specs.Prelude.{◌≡◌, ℕ, List, [], ◌∷◌, ◌++◌, length, take, replicate, refl}
-use Rattle.std.proofs.Common.{sym, ap, ◌∙◌, arith, length-take, length-append}
+use Rattle.std.specs.Prelude.{◌≡◌, ℕ, List, [], ◌++◌, length, take, replicate, refl}
+use Rattle.std.proofs.Common.{arith, length-take, length-append}
 use Rattle.std.proofs.lemmas.List.{length-replicate}
+use Rattle.std.proofs.lemmas.List.Sums.{fold-append}
 use Rattle.block.specs.Places.{place_count}
-use Rattle.block.specs.Accesses.{Access, Meaning, stepped, words_after, after}
+use Rattle.block.specs.Accesses.{Access, Meaning, words_after, after}
 use Rattle.block.specs.Model.{Model}
-use Rattle.base.specs.declared.chip.Chip.{Chip}
 use Rattle.block.specs.declared.register_file.RegisterFile.{RegisterFile}
 
 -- The words of an array: it has 49, so this is the array itself.
@@ -20,16 +20,10 @@ pub length_whole : (ws : List ℕ) → length (whole ws) ≡ place_count
 unfolding whole
 length_whole ws = simp (length-take, length-append, length-replicate) (omega arith)
 
-words-++ : (chip : Chip) (ws : List ℕ) (xs ys : List Access) → words_after chip ws (xs ++ ys) ≡ words_after chip (words_after chip ws xs) ys
-unfolding words_after
-words-++ chip ws [] ys = refl
-words-++ chip ws (x ∷ xs) ys = words-++ chip (stepped chip ws x) xs ys
-
 -- what a block means after both, from what it means after each
 pub after-++ : (m n k : Meaning) (xs ys : List Access) → n ≡ after m xs → k ≡ after n ys → k ≡ after m (xs ++ ys)
-after-++ m n k xs ys first then =
-    then ∙ ap (λ (x : Meaning). after x ys) first
-    ∙ ap (λ (ws : List ℕ). record { chip = m.chip; words = ws }) (sym (words-++ m.chip m.words xs ys))
+unfolding words_after
+after-++ m n k xs ys first then = rw (fold-append, then, first)
 
 pub after_none : (m : Meaning) → m ≡ after m []
 unfolding words_after

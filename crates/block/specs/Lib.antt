@@ -4,4 +4,5 @@ pub mod Puts
 pub mod Accesses
 pub mod Model
 pub mod Files
+pub mod Kept
 pub mod Replays

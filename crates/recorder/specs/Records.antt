@@ -1,10 +1,8 @@
--- Records of a write list, and what a recorder writes. Assumes nothing.
-use Rattle.std.specs.Prelude.{ℕ, ◌+◌, ◌-◌, ◌*◌, ◌/◌, ◌%◌, ◌^◌, min, cond, List, [], ◌∷◌, ◌++◌, length, take, drop, nat_le}
+-- What a recorder writes, and what it keeps beside its register file. Assumes nothing.
+use Rattle.std.specs.Prelude.{ℕ, ◌+◌, ◌-◌, ◌*◌, ◌^◌, min, cond, List, ◌++◌, length, take, drop, nat_le}
+use Rattle.std.specs.Borrow.{GName}
 use Rattle.block.specs.Accesses.{Access, Get, Put}
-
--- The eight bytes of a record: the place, three zeros, and the word from its lowest byte on.
-abbrev pub record_bytes : ℕ → ℕ → List ℕ
-record_bytes at w = at ∷ 0 ∷ 0 ∷ 0 ∷ (w % 256) ∷ (w / 256 % 256) ∷ (w / 65536 % 256) ∷ (w / 16777216 % 256) ∷ []
+use Rattle.block.specs.Replays.{record_bytes}
 
 -- A list with the record of one more put, where n puts came before: a record that does not fit is left out.
 abbrev pub noted : List ℕ → ℕ → ℕ → ℕ → List ℕ
@@ -14,14 +12,13 @@ noted list n at w = cond (nat_le (8 * n + 8) (length list)) (take (8 * n) list +
 abbrev pub counted : ℕ → ℕ
 counted n = min (n + 1) (2 ^ 64 - 1)
 
--- The number of puts after accesses, where n came before.
-unfoldable pub puts_after : ℕ → List Access → ℕ
-puts_after n [] = n
-puts_after n (Get at ∷ xs) = puts_after n xs
-puts_after n (Put at w ∷ xs) = puts_after (counted n) xs
+-- A list and which loan it is, and how many puts there were.
+pub record Recording : Type 0 where
+  pub list : List ℕ
+  pub loan : GName
+  pub puts : ℕ
 
--- The list after accesses, where n puts came before.
-unfoldable pub list_after : List ℕ → ℕ → List Access → List ℕ
-list_after list n [] = list
-list_after list n (Get at ∷ xs) = list_after list n xs
-list_after list n (Put at w ∷ xs) = list_after (noted list n at w) (counted n) xs
+-- A recording after one access: a put is noted and counted. The list stays the one that was lent.
+abbrev pub recorded : Recording → Access → Recording
+recorded r (Get at) = r
+recorded r (Put at w) = record { list = noted r.list r.puts at w; loan = r.loan; puts = counted r.puts }

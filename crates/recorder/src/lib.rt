@@ -1,11 +1,11 @@
 // A block that also writes each put as a record into a list that its caller lends.
 #![tactic(auto)]
 
-ghost use Rattle.std.specs.Prelude.{◌≡◌, ◌+◌, ◌≤◌, ◌++◌, length, take, drop};
-ghost use Rattle.block.specs.Accesses.{new_block};
+ghost use Rattle.std.specs.Prelude.{◌≡◌};
+ghost use Rattle.block.specs.Accesses.{Put, new_block};
 ghost use Rattle.block.specs.Parts.{handles_of};
-ghost use Rattle.recorder.specs.Records.{record_bytes, noted};
-ghost use Rattle.recorder.specs.Recorders.{recorder_means, recorder_model};
+ghost use Rattle.recorder.specs.Records.{recorded};
+ghost use Rattle.recorder.specs.Recorders.{recorder_means, recording_of, recorder_model};
 
 use base::chip::Chip;
 use base::profile::Profile;
@@ -13,6 +13,7 @@ use block::access::Block;
 use block::parts::Handles;
 use block::place::Place;
 use block::register_file::RegisterFile;
+use block::replay::Record;
 use block::words::Words;
 
 #[cfg(test)]
@@ -23,25 +24,6 @@ pub struct Recorder<'a> {
     file: RegisterFile,
     list: &'a mut [u8],
     puts: u64,
-}
-
-// Writes a record at byte `start`.
-fn write_record(list: &mut [u8], start: usize, at: Place, word: u32)
-    requires { start + 8 ≤ length list.old }
-    ensures { list.new ≡ take start list.old ++ record_bytes at.index word ++ drop (start + 8) list.old }
-{
-    let [w0, w1, w2, w3] = word.to_le_bytes();
-    let record = [at.index(), 0, 0, 0, w0, w1, w2, w3];
-    list[start..start + 8].copy_from_slice(&record);
-}
-
-// Notes a put behind the `puts` before it, if its record fits.
-fn note(list: &mut [u8], puts: u64, at: Place, word: u32)
-    ensures { list.new ≡ noted list.old puts at.index word }
-{
-    if puts < list.len() as u64 / 8 {
-        write_record(list, puts as usize * 8, at, word);
-    }
 }
 
 impl<'a> Recorder<'a> {
@@ -70,8 +52,20 @@ impl Recorder<'_> {
     pub fn puts(&self) -> u64
         ensures { result ≡ self.now.puts }
     {
-        let Recorder { puts, .. } = self;
-        *puts
+        self.puts
+    }
+
+    // Notes a put behind those before it, if its record fits, and counts it.
+    fn note(&mut self, put: Record)
+        ensures file { self.new.file ≡ self.old.file }
+        ensures recording { recording_of self.new ≡ recorded (recording_of self.old) (Put put.at.index put.word) }
+    {
+        let Recorder { list, puts, .. } = self;
+        if *puts < list.len() as u64 / 8 {
+            let start = *puts as usize * 8;
+            list[start..start + 8].copy_from_slice(&<[u8; 8]>::from(put));
+        }
+        *puts = puts.saturating_add(1);
     }
 }
 
@@ -88,9 +82,7 @@ impl<'a> Block for Recorder<'a> {
 
     fn put(&mut self, at: Place, word: u32) {
         self.file.put(at, word);
-        let puts = self.puts;
-        note(self.list, puts, at, word);
-        self.puts = puts.saturating_add(1);
+        self.note(Record { at, word });
     }
 
     fn words(&self) -> Words {

@@ -1,5 +1,5 @@
 -- The phases of the alarms. Assumes nothing.
-use Rattle.std.specs.Prelude.{cond, ◌&&◌, List, [], ◌∷◌, ℕ, ◌+◌, ◌-◌, nat_le, nat_lt, slice_set}
+use Rattle.std.specs.Prelude.{cond, ◌&&◌, List, ℕ, ◌+◌, ◌-◌, nat_le, nat_lt, slice_set}
 use Rattle.block.specs.Places.{alarm_place}
 use Rattle.block.specs.Accesses.{Access, Get, Put}
 use Rattle.base.specs.declared.numbers.AlarmNumber.TheVariants.{Zero}
@@ -18,8 +18,7 @@ first_load = alarm_place Zero CompLoad
 abbrev pub comparators_put : List Comparator → ℕ → List Comparator
 comparators_put cs at = cond (nat_le first_load at && nat_lt at (first_load + 3)) (slice_set cs (at - first_load) zero_phase) cs
 
--- The comparators after accesses.
-unfoldable pub comparators_after : List Comparator → List Access → List Comparator
-comparators_after cs [] = cs
-comparators_after cs (Get at ∷ xs) = comparators_after cs xs
-comparators_after cs (Put at w ∷ xs) = comparators_after (comparators_put cs at) xs
+-- The comparators after one access: a get changes none.
+abbrev pub comparators_step : List Comparator → Access → List Comparator
+comparators_step cs (Get at) = cs
+comparators_step cs (Put at w) = comparators_put cs at

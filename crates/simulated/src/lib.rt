@@ -10,8 +10,9 @@ ghost use Rattle.simulated.specs.Comparators.{zero_phase, comparators_put};
 ghost use Rattle.simulated.specs.Simulations.{simulated_means, simulated_model};
 
 use base::chip::Chip;
+use base::numbers::AlarmNumber;
 use base::profile::Profile;
-use base::registers::GroupRegister;
+use base::registers::{AlarmRegister, GroupRegister};
 use block::access::Block;
 use block::parts::Handles;
 use block::place::Place;
@@ -30,16 +31,13 @@ pub struct SimulatedBlock {
     comparators: [Comparator; 3],
 }
 
-// The place COMP_LOAD of alarm 0; those of alarms 1 and 2 follow.
-const COMP_LOAD: u8 = 43;
-
-// A put at COMP_LOAD starts its alarm's period anew.
+// A put at COMP_LOAD starts its alarm's period anew; the places of the three lie one behind the other.
 fn restart(comparators: &mut [Comparator; 3], at: Place)
     ensures { comparators.new ≡ comparators_put comparators.old at.index }
 {
-    let index = at.index();
-    if index >= COMP_LOAD && index < COMP_LOAD + 3 {
-        comparators[(index - COMP_LOAD) as usize] = Comparator { phase: 0 };
+    let first = Place::alarm(AlarmNumber::Zero, AlarmRegister::CompLoad);
+    if let Some(alarm @ ..3) = at.index().checked_sub(first.index()) {
+        comparators[alarm as usize] = Comparator { phase: 0 };
     }
 }
 
