@@ -25,23 +25,20 @@ pub enum StageAction {
     ResetSystem,
 }
 
-/// The actions of the watchdog's four stages.
+/// One of the same kind for each of the watchdog's four stages.
 #[derive(Clone, Copy, PartialEq, Eq)]
-pub struct Actions {
-    pub stage0: StageAction,
-    pub stage1: StageAction,
-    pub stage2: StageAction,
-    pub stage3: StageAction,
+pub struct Stages<T> {
+    pub stage0: T,
+    pub stage1: T,
+    pub stage2: T,
+    pub stage3: T,
 }
 
-/// How many prescaled ticks each of the four stages lasts.
-#[derive(Clone, Copy, PartialEq, Eq)]
-pub struct Holds {
-    pub stage0: u32,
-    pub stage1: u32,
-    pub stage2: u32,
-    pub stage3: u32,
-}
+/// What the watchdog does at the end of each stage.
+pub type Actions = Stages<StageAction>;
+
+/// How many prescaled ticks each stage lasts.
+pub type Holds = Stages<u32>;
 
 /// What the watchdog is set to; the prescaler belongs to all four stages.
 #[derive(Clone, Copy, PartialEq, Eq)]

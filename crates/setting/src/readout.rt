@@ -5,7 +5,7 @@ ghost use Rattle.setting.specs.Watchdogs.{action_of, actions_of, watchdog_settin
 ghost use Rattle.setting.specs.Readouts.{settings_of};
 
 use crate::kinds::{
-    Actions, Holds, Origins, Settings, StageAction, TimerSetting, Timing, WatchdogSetting,
+    Actions, Origins, Settings, StageAction, Stages, TimerSetting, Timing, WatchdogSetting,
 };
 use base::bits::is_set;
 use base::chip::Chip;
@@ -118,7 +118,7 @@ fn stage_action(bits: u32) -> StageAction
 fn actions(config: u32) -> Actions
     ensures { result ≡ actions_of config }
 {
-    Actions {
+    Stages {
         stage0: stage_action((config >> 29) % 4),
         stage1: stage_action((config >> 27) % 4),
         stage2: stage_action((config >> 25) % 4),
@@ -132,7 +132,7 @@ pub fn watchdog_setting(words: &Words) -> WatchdogSetting
 {
     let config = watchdog_word(words, WatchdogRegister::Config0);
     let prescaler = watchdog_word(words, WatchdogRegister::Config1) >> 16;
-    let holds = Holds {
+    let holds = Stages {
         stage0: watchdog_word(words, WatchdogRegister::Config2),
         stage1: watchdog_word(words, WatchdogRegister::Config3),
         stage2: watchdog_word(words, WatchdogRegister::Config4),

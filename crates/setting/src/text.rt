@@ -1,9 +1,10 @@
 // The settings as text, a line for each part.
-ghost use Rattle.std.specs.Prelude.{◌≡◌, Some, decimal};
+ghost use Rattle.std.specs.Prelude.{◌≡◌, Some, codes, decimal};
+ghost use Rattle.std.specs.Fmt.{◌++?◌};
 ghost use Rattle.setting.specs.Watchdogs.{action_number};
-ghost use Rattle.setting.specs.Texts.{timing_text, timer_text, actions_text, holds_text, watchdog_text, settings_text};
+ghost use Rattle.setting.specs.Texts.{timing_text, timer_text, watchdog_text, settings_text};
 
-use crate::kinds::{Actions, Holds, Settings, StageAction, TimerSetting, Timing, WatchdogSetting};
+use crate::kinds::{Settings, StageAction, Stages, TimerSetting, Timing, WatchdogSetting};
 use std::fmt;
 
 impl fmt::Display for Timing {
@@ -51,30 +52,16 @@ impl fmt::Display for StageAction {
     }
 }
 
-impl fmt::Display for Actions {
-    ghost output = { λ a. Some (actions_text a) };
+impl<T: fmt::Display> fmt::Display for Stages<T> {
+    ghost output = { λ s. T.output s.stage0 ++? Some (codes " ") ++? T.output s.stage1 ++? Some (codes " ") ++? T.output s.stage2 ++? Some (codes " ") ++? T.output s.stage3 };
 
     fn fmt<W: fmt::Write>(&self, f: &mut fmt::Formatter<W>) -> fmt::Result {
-        let Actions {
+        let Stages {
             stage0,
             stage1,
             stage2,
             stage3,
-        } = *self;
-        write!(f, "{stage0} {stage1} {stage2} {stage3}")
-    }
-}
-
-impl fmt::Display for Holds {
-    ghost output = { λ h. Some (holds_text h) };
-
-    fn fmt<W: fmt::Write>(&self, f: &mut fmt::Formatter<W>) -> fmt::Result {
-        let Holds {
-            stage0,
-            stage1,
-            stage2,
-            stage3,
-        } = *self;
+        } = self;
         write!(f, "{stage0} {stage1} {stage2} {stage3}")
     }
 }
