@@ -16,13 +16,24 @@ pub struct TimerSetting {
     pub listening: bool,
 }
 
-/// What the watchdog does at the end of a stage.
+/// What the watchdog does at the end of a stage, by the number in the stage's two bits.
 #[derive(Clone, Copy, PartialEq, Eq)]
 pub enum StageAction {
-    Off,
-    Interrupt,
-    ResetCpu,
-    ResetSystem,
+    Off = 0,
+    Interrupt = 1,
+    ResetCpu = 2,
+    ResetSystem = 3,
+}
+
+impl From<StageAction> for u8 {
+    ghost use Rattle.std.specs.Prelude.{◌≡◌};
+    ghost use Rattle.setting.specs.Watchdogs.{action_number};
+
+    ghost from_gives = { λ action number. number ≡ action_number action };
+
+    fn from(action: StageAction) -> u8 {
+        action as u8
+    }
 }
 
 /// One of the same kind for each of the watchdog's four stages.

@@ -1,5 +1,6 @@
 // Reading the settings off a block's words.
-ghost use Rattle.std.specs.Prelude.{◌≡◌};
+ghost use Rattle.std.specs.Prelude.{◌≡◌, ◌<◌};
+ghost use Rattle.base.specs.Bits.{field};
 ghost use Rattle.setting.specs.Timings.{timing_of, timer_due, timer_listening, timer_setting, alarm_due, alarm_setting};
 ghost use Rattle.setting.specs.Watchdogs.{action_of, actions_of, watchdog_setting};
 ghost use Rattle.setting.specs.Readouts.{settings_of};
@@ -103,11 +104,12 @@ pub fn alarm_setting(words: &Words, number: AlarmNumber, origin: u64) -> TimerSe
     }
 }
 
-// The action in a stage's two bits.
-fn stage_action(bits: u32) -> StageAction
-    ensures { result ≡ action_of bits }
+// The action in the two bits of WDTCONFIG0 from `low` on.
+fn action_at(config: u32, low: u8) -> StageAction
+    requires { low < 32 }
+    ensures { result ≡ action_of (field config low 2) }
 {
-    match bits {
+    match (config >> low) % 4 {
         0 => StageAction::Off,
         1 => StageAction::Interrupt,
         2 => StageAction::ResetCpu,
@@ -119,10 +121,10 @@ fn actions(config: u32) -> Actions
     ensures { result ≡ actions_of config }
 {
     Stages {
-        stage0: stage_action((config >> 29) % 4),
-        stage1: stage_action((config >> 27) % 4),
-        stage2: stage_action((config >> 25) % 4),
-        stage3: stage_action((config >> 23) % 4),
+        stage0: action_at(config, 29),
+        stage1: action_at(config, 27),
+        stage2: action_at(config, 25),
+        stage3: action_at(config, 23),
     }
 }
 

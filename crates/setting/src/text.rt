@@ -1,5 +1,5 @@
 // The settings as text, a line for each part.
-ghost use Rattle.std.specs.Prelude.{◌≡◌, Some, codes, decimal};
+ghost use Rattle.std.specs.Prelude.{Some, codes, decimal};
 ghost use Rattle.std.specs.Fmt.{◌++?◌};
 ghost use Rattle.setting.specs.Watchdogs.{action_number};
 ghost use Rattle.setting.specs.Texts.{timing_text, timer_text, watchdog_text, settings_text};
@@ -29,26 +29,11 @@ impl fmt::Display for TimerSetting {
     }
 }
 
-impl StageAction {
-    /// The number of an action in its stage's two bits.
-    pub fn number(&self) -> u8
-        ensures { result ≡ action_number self.now }
-    {
-        match self {
-            StageAction::Off => 0,
-            StageAction::Interrupt => 1,
-            StageAction::ResetCpu => 2,
-            StageAction::ResetSystem => 3,
-        }
-    }
-}
-
 impl fmt::Display for StageAction {
     ghost output = { λ a. Some (decimal (action_number a)) };
 
     fn fmt<W: fmt::Write>(&self, f: &mut fmt::Formatter<W>) -> fmt::Result {
-        let number = self.number();
-        write!(f, "{number}")
+        write!(f, "{}", u8::from(*self))
     }
 }
 
