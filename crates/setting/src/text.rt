@@ -23,9 +23,7 @@ impl fmt::Display for TimerSetting {
     ghost output = { λ s. Some (timer_text s) };
 
     fn fmt<W: fmt::Write>(&self, f: &mut fmt::Formatter<W>) -> fmt::Result {
-        let timing = self.timing;
-        let listening = u8::from(self.listening);
-        write!(f, "{timing} {listening}")
+        write!(f, "{} {}", self.timing, u8::from(self.listening))
     }
 }
 
@@ -56,10 +54,11 @@ impl fmt::Display for WatchdogSetting {
 
     fn fmt<W: fmt::Write>(&self, f: &mut fmt::Formatter<W>) -> fmt::Result {
         let enabled = u8::from(self.enabled);
-        let actions = self.actions;
-        let prescaler = self.prescaler;
-        let holds = self.holds;
-        write!(f, "{enabled} {actions} {prescaler} {holds}")
+        write!(
+            f,
+            "{enabled} {} {} {}",
+            self.actions, self.prescaler, self.holds
+        )
     }
 }
 
@@ -67,20 +66,13 @@ impl fmt::Display for Settings {
     ghost output = { λ s. Some (settings_text s) };
 
     fn fmt<W: fmt::Write>(&self, f: &mut fmt::Formatter<W>) -> fmt::Result {
-        let timer0 = self.timer0;
-        let alarm0 = self.alarm0;
-        let alarm1 = self.alarm1;
-        let alarm2 = self.alarm2;
-        let watchdog = self.watchdog;
-        match self.timer1 {
-            Some(timer1) => write!(
-                f,
-                "timer 0 {timer0}\ntimer 1 {timer1}\nalarm 0 {alarm0}\nalarm 1 {alarm1}\nalarm 2 {alarm2}\nwatchdog {watchdog}"
-            ),
-            None => write!(
-                f,
-                "timer 0 {timer0}\nalarm 0 {alarm0}\nalarm 1 {alarm1}\nalarm 2 {alarm2}\nwatchdog {watchdog}"
-            ),
+        writeln!(f, "timer 0 {}", self.timer0)?;
+        if let Some(timer1) = self.timer1 {
+            writeln!(f, "timer 1 {timer1}")?;
         }
+        writeln!(f, "alarm 0 {}", self.alarm0)?;
+        writeln!(f, "alarm 1 {}", self.alarm1)?;
+        writeln!(f, "alarm 2 {}", self.alarm2)?;
+        write!(f, "watchdog {}", self.watchdog)
     }
 }
