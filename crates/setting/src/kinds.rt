@@ -72,7 +72,7 @@ pub struct Settings {
 }
 
 /// The system count at which each alarm's delay began: the due of a delay counts from there.
-#[derive(Clone, Copy)]
+#[derive(Clone, Copy, Default)]
 pub struct Origins {
     pub alarm0: u64,
     pub alarm1: u64,
