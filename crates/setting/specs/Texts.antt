@@ -3,8 +3,8 @@ use Rattle.std.specs.Prelude.{ℕ, Bool, true, false, List, ◌++◌, Some, None
 use Rattle.setting.specs.declared.kinds.Timing.{Timing}
 use Rattle.setting.specs.declared.kinds.Timing.TheVariants.{Idle, Once, Again}
 use Rattle.setting.specs.declared.kinds.TimerSetting.{TimerSetting}
-use Rattle.setting.specs.declared.kinds.Actions.{Actions}
-use Rattle.setting.specs.declared.kinds.Holds.{Holds}
+use Rattle.setting.specs.declared.kinds.Stages.{Stages}
+use Rattle.setting.specs.declared.kinds.StageAction.{StageAction}
 use Rattle.setting.specs.declared.kinds.WatchdogSetting.{WatchdogSetting}
 use Rattle.setting.specs.declared.kinds.Settings.{Settings}
 use Rattle.setting.specs.Watchdogs.{action_number}
@@ -24,22 +24,19 @@ timing_text (Again ticks) = codes "again " ++ decimal ticks
 abbrev pub timer_text : TimerSetting → List ℕ
 timer_text s = timing_text s.timing ++ (codes " " ++ decimal (flag s.listening))
 
--- Four numbers with blanks between them.
-abbrev pub four : ℕ → ℕ → ℕ → ℕ → List ℕ
-four a b c d = decimal a ++ (codes " " ++ (decimal b ++ (codes " " ++ (decimal c ++ (codes " " ++ decimal d)))))
+-- The four stages as text, with blanks between them.
+abbrev pub stages_text : {T : Type 0} → (T → List ℕ) → Stages T → List ℕ
+stages_text text s =
+    text s.stage0 ++ (codes " " ++ (text s.stage1 ++ (codes " " ++ (text s.stage2 ++ (codes " " ++ text s.stage3)))))
 
--- The four actions by their numbers.
-abbrev pub actions_text : Actions → List ℕ
-actions_text a = four (action_number a.stage0) (action_number a.stage1) (action_number a.stage2) (action_number a.stage3)
-
--- The four holds.
-abbrev pub holds_text : Holds → List ℕ
-holds_text h = four h.stage0 h.stage1 h.stage2 h.stage3
+-- An action by its number.
+abbrev pub action_text : StageAction → List ℕ
+action_text a = decimal (action_number a)
 
 -- The switch, the four actions, the prescaler and the four holds.
 abbrev pub watchdog_text : WatchdogSetting → List ℕ
 watchdog_text s =
-    decimal (flag s.enabled) ++ (codes " " ++ (actions_text s.actions ++ (codes " " ++ (decimal s.prescaler ++ (codes " " ++ holds_text s.holds)))))
+    decimal (flag s.enabled) ++ (codes " " ++ (stages_text action_text s.actions ++ (codes " " ++ (decimal s.prescaler ++ (codes " " ++ stages_text decimal s.holds)))))
 
 -- The line of timer 1, if there is one.
 abbrev pub second_timer : Option TimerSetting → List ℕ → List ℕ

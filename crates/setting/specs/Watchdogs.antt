@@ -5,8 +5,7 @@ use Rattle.block.specs.Places.{watchdog_place}
 use Rattle.base.specs.declared.registers.WatchdogRegister.TheVariants.{Config0, Config1, Config2, Config3, Config4, Config5}
 use Rattle.setting.specs.declared.kinds.StageAction.{StageAction}
 use Rattle.setting.specs.declared.kinds.StageAction.TheVariants.{Off, Interrupt, ResetCpu, ResetSystem}
-use Rattle.setting.specs.declared.kinds.Actions.{Actions}
-use Rattle.setting.specs.declared.kinds.Holds.{Holds}
+use Rattle.setting.specs.declared.kinds.Stages.{Stages}
 use Rattle.setting.specs.declared.kinds.WatchdogSetting.{WatchdogSetting}
 
 -- The number of an action, in a stage's two bits and in what is printed.
@@ -24,7 +23,7 @@ action_of (suc (suc zero)) = ResetCpu
 action_of (suc (suc (suc n))) = ResetSystem
 
 -- The actions stand in WDTCONFIG0: bits 29 and 30 for stage 0, two bits lower for each further stage.
-abbrev pub actions_of : ℕ → Actions
+abbrev pub actions_of : ℕ → Stages StageAction
 actions_of config = record {
   stage0 = action_of (field config 29 2);
   stage1 = action_of (field config 27 2);
@@ -33,7 +32,7 @@ actions_of config = record {
 }
 
 -- The holds are WDTCONFIG2 to 5.
-abbrev pub holds_of : List ℕ → Holds
+abbrev pub holds_of : List ℕ → Stages ℕ
 holds_of ws = record {
   stage0 = slice_index ws (watchdog_place Config2);
   stage1 = slice_index ws (watchdog_place Config3);

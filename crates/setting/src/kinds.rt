@@ -16,32 +16,40 @@ pub struct TimerSetting {
     pub listening: bool,
 }
 
-/// What the watchdog does at the end of a stage.
+/// What the watchdog does at the end of a stage, by the number in the stage's two bits.
 #[derive(Clone, Copy, PartialEq, Eq)]
 pub enum StageAction {
-    Off,
-    Interrupt,
-    ResetCpu,
-    ResetSystem,
+    Off = 0,
+    Interrupt = 1,
+    ResetCpu = 2,
+    ResetSystem = 3,
 }
 
-/// The actions of the watchdog's four stages.
-#[derive(Clone, Copy, PartialEq, Eq)]
-pub struct Actions {
-    pub stage0: StageAction,
-    pub stage1: StageAction,
-    pub stage2: StageAction,
-    pub stage3: StageAction,
+impl From<StageAction> for u8 {
+    ghost use Rattle.std.specs.Prelude.{◌≡◌};
+    ghost use Rattle.setting.specs.Watchdogs.{action_number};
+
+    ghost from_gives = { λ action number. number ≡ action_number action };
+
+    fn from(action: StageAction) -> u8 {
+        action as u8
+    }
 }
 
-/// How many prescaled ticks each of the four stages lasts.
+/// One of the same kind for each of the watchdog's four stages.
 #[derive(Clone, Copy, PartialEq, Eq)]
-pub struct Holds {
-    pub stage0: u32,
-    pub stage1: u32,
-    pub stage2: u32,
-    pub stage3: u32,
+pub struct Stages<T> {
+    pub stage0: T,
+    pub stage1: T,
+    pub stage2: T,
+    pub stage3: T,
 }
+
+/// What the watchdog does at the end of each stage.
+pub type Actions = Stages<StageAction>;
+
+/// How many prescaled ticks each stage lasts.
+pub type Holds = Stages<u32>;
 
 /// What the watchdog is set to; the prescaler belongs to all four stages.
 #[derive(Clone, Copy, PartialEq, Eq)]
@@ -64,7 +72,7 @@ pub struct Settings {
 }
 
 /// The system count at which each alarm's delay began: the due of a delay counts from there.
-#[derive(Clone, Copy)]
+#[derive(Clone, Copy, Default)]
 pub struct Origins {
     pub alarm0: u64,
     pub alarm1: u64,

@@ -1,11 +1,12 @@
 // Reading the settings off a block's words.
-ghost use Rattle.std.specs.Prelude.{◌≡◌};
-ghost use Rattle.setting.specs.Timings.{timing_of, timer_due, timer_listening, timer_setting, alarm_due, alarm_setting};
+ghost use Rattle.std.specs.Prelude.{◌≡◌, ℕ, ◌+◌, ◌*◌, ◌^◌, ◌<◌, slice_index};
+ghost use Rattle.base.specs.Bits.{field};
+ghost use Rattle.setting.specs.Timings.{timing_of, timer_due, timer_listening, timer_setting, count_difference, alarm_due, alarm_setting};
 ghost use Rattle.setting.specs.Watchdogs.{action_of, actions_of, watchdog_setting};
 ghost use Rattle.setting.specs.Readouts.{settings_of};
 
 use crate::kinds::{
-    Actions, Holds, Origins, Settings, StageAction, TimerSetting, Timing, WatchdogSetting,
+    Actions, Origins, Settings, StageAction, Stages, TimerSetting, Timing, WatchdogSetting,
 };
 use base::bits::is_set;
 use base::chip::Chip;
@@ -18,7 +19,7 @@ use block::place::Place;
 use block::words::{Words, watchdog_word, word_at};
 
 // The system count runs modulo 2^52.
-const COUNT_MODULUS: u64 = 0x10_0000_0000_0000;
+const COUNT_MODULUS: u64 = 1 << 52;
 
 fn timing(run: bool, repeat: bool, due: u64) -> Timing
     ensures { result ≡ timing_of run repeat due }
@@ -30,84 +31,26 @@ fn timing(run: bool, repeat: bool, due: u64) -> Timing
     }
 }
 
-fn due_of_timer(words: &Words, number: TimerNumber) -> u64
-    ensures { result ≡ timer_due number words.now }
+// The number that two words hold.
+fn joined(high: u32, low: u32) -> u64
+    ensures { result ≡ high * 2 ^ 32 + low }
 {
-    let high = word_at(words, Place::timer(number, TimerRegister::AlarmHi));
-    let low = word_at(words, Place::timer(number, TimerRegister::AlarmLo));
-    u64::from(high) * 0x1_0000_0000 + u64::from(low)
+    u64::from(high) << 32 | u64::from(low)
 }
 
-fn timer_listens(chip: &Chip, words: &Words, number: TimerNumber) -> bool
-    ensures { result ≡ timer_listening chip.now number words.now }
+// How far the system count runs from `origin` to `target`.
+fn count_between(origin: u64, target: u64) -> u64
+    ensures { result ≡ count_difference target origin }
 {
-    if chip.level {
-        return is_set(
-            word_at(words, Place::timer(number, TimerRegister::Config)),
-            11,
-        );
-    }
-    let enabled = word_at(words, Place::group(GroupRegister::IntEna));
-    is_set(enabled, number.index())
+    target.wrapping_sub(origin) % COUNT_MODULUS
 }
 
-/// The setting of a group timer.
-pub fn timer_setting(chip: &Chip, words: &Words, number: TimerNumber) -> TimerSetting
-    ensures { result ≡ timer_setting chip.now number words.now }
+// The action in the two bits of WDTCONFIG0 from `low` on.
+fn action_at(config: u32, low: u8) -> StageAction
+    requires { low < 32 }
+    ensures { result ≡ action_of (field config low 2) }
 {
-    let config = word_at(words, Place::timer(number, TimerRegister::Config));
-    let timing = timing(
-        is_set(config, 31),
-        is_set(config, 29),
-        due_of_timer(words, number),
-    );
-    TimerSetting {
-        timing,
-        listening: timer_listens(chip, words, number),
-    }
-}
-
-fn due_of_alarm(words: &Words, number: AlarmNumber, origin: u64) -> u64
-    ensures { result ≡ alarm_due origin number words.now }
-{
-    let conf = word_at(words, Place::alarm(number, AlarmRegister::TargetConf));
-    if is_set(conf, 30) {
-        return u64::from(conf % 0x400_0000);
-    }
-    let high = word_at(words, Place::alarm(number, AlarmRegister::TargetHi));
-    let low = word_at(words, Place::alarm(number, AlarmRegister::TargetLo));
-    let target = u64::from(high) * 0x1_0000_0000 + u64::from(low);
-    (target % COUNT_MODULUS + COUNT_MODULUS - origin % COUNT_MODULUS) % COUNT_MODULUS
-}
-
-/// The setting of an alarm whose delay began at the system count `origin`.
-pub fn alarm_setting(words: &Words, number: AlarmNumber, origin: u64) -> TimerSetting
-    ensures { result ≡ alarm_setting origin number words.now }
-{
-    let channel = number.index();
-    let run = is_set(
-        word_at(words, Place::system(SystemRegister::Conf)),
-        24 - channel,
-    );
-    let repeat = is_set(
-        word_at(words, Place::alarm(number, AlarmRegister::TargetConf)),
-        30,
-    );
-    let listening = is_set(
-        word_at(words, Place::system(SystemRegister::IntEna)),
-        channel,
-    );
-    TimerSetting {
-        timing: timing(run, repeat, due_of_alarm(words, number, origin)),
-        listening,
-    }
-}
-
-// The action in a stage's two bits.
-fn stage_action(bits: u32) -> StageAction
-    ensures { result ≡ action_of bits }
-{
-    match bits {
+    match (config >> low) % 4 {
         0 => StageAction::Off,
         1 => StageAction::Interrupt,
         2 => StageAction::ResetCpu,
@@ -118,31 +61,110 @@ fn stage_action(bits: u32) -> StageAction
 fn actions(config: u32) -> Actions
     ensures { result ≡ actions_of config }
 {
-    Actions {
-        stage0: stage_action((config >> 29) % 4),
-        stage1: stage_action((config >> 27) % 4),
-        stage2: stage_action((config >> 25) % 4),
-        stage3: stage_action((config >> 23) % 4),
+    Stages {
+        stage0: action_at(config, 29),
+        stage1: action_at(config, 27),
+        stage2: action_at(config, 25),
+        stage3: action_at(config, 23),
     }
 }
 
-/// The setting of the watchdog.
-pub fn watchdog_setting(words: &Words) -> WatchdogSetting
-    ensures { result ≡ watchdog_setting words.now }
-{
-    let config = watchdog_word(words, WatchdogRegister::Config0);
-    let prescaler = watchdog_word(words, WatchdogRegister::Config1) >> 16;
-    let holds = Holds {
-        stage0: watchdog_word(words, WatchdogRegister::Config2),
-        stage1: watchdog_word(words, WatchdogRegister::Config3),
-        stage2: watchdog_word(words, WatchdogRegister::Config4),
-        stage3: watchdog_word(words, WatchdogRegister::Config5),
-    };
-    WatchdogSetting {
-        enabled: is_set(config, 31),
-        actions: actions(config),
-        prescaler: prescaler as u16,
-        holds,
+/// The words of a block, and the chip that says which of them count.
+#[derive(Clone, Copy)]
+pub struct Readout<'a> {
+    pub chip: &'a Chip,
+    pub words: &'a Words,
+}
+
+impl Readout<'_> {
+    fn word(&self, at: Place) -> u32
+        ensures { result ≡ slice_index self.now.words.now at.index }
+    {
+        word_at(self.words, at)
+    }
+
+    fn timer_due(&self, number: TimerNumber) -> u64
+        ensures { result ≡ timer_due number self.now.words.now }
+    {
+        let high = self.word(Place::timer(number, TimerRegister::AlarmHi));
+        let low = self.word(Place::timer(number, TimerRegister::AlarmLo));
+        joined(high, low)
+    }
+
+    fn timer_listens(&self, number: TimerNumber) -> bool
+        ensures { result ≡ timer_listening self.now.chip.now number self.now.words.now }
+    {
+        if self.chip.level {
+            is_set(self.word(Place::timer(number, TimerRegister::Config)), 11)
+        } else {
+            let enabled = self.word(Place::group(GroupRegister::IntEna));
+            is_set(enabled, number.index())
+        }
+    }
+
+    /// The setting of a group timer.
+    pub fn timer(&self, number: TimerNumber) -> TimerSetting
+        ensures { result ≡ timer_setting self.now.chip.now number self.now.words.now }
+    {
+        let config = self.word(Place::timer(number, TimerRegister::Config));
+        TimerSetting {
+            timing: timing(
+                is_set(config, 31),
+                is_set(config, 29),
+                self.timer_due(number),
+            ),
+            listening: self.timer_listens(number),
+        }
+    }
+
+    fn alarm_due(&self, number: AlarmNumber, origin: u64) -> u64
+        ensures { result ≡ alarm_due origin number self.now.words.now }
+    {
+        let conf = self.word(Place::alarm(number, AlarmRegister::TargetConf));
+        if is_set(conf, 30) {
+            u64::from(conf % 0x400_0000)
+        } else {
+            let high = self.word(Place::alarm(number, AlarmRegister::TargetHi));
+            let low = self.word(Place::alarm(number, AlarmRegister::TargetLo));
+            count_between(origin, joined(high, low))
+        }
+    }
+
+    /// The setting of an alarm whose delay began at the system count `origin`.
+    pub fn alarm(&self, number: AlarmNumber, origin: u64) -> TimerSetting
+        ensures { result ≡ alarm_setting origin number self.now.words.now }
+    {
+        let channel = number.index();
+        let running = self.word(Place::system(SystemRegister::Conf));
+        let conf = self.word(Place::alarm(number, AlarmRegister::TargetConf));
+        let enabled = self.word(Place::system(SystemRegister::IntEna));
+        TimerSetting {
+            timing: timing(
+                is_set(running, 24 - channel),
+                is_set(conf, 30),
+                self.alarm_due(number, origin),
+            ),
+            listening: is_set(enabled, channel),
+        }
+    }
+
+    /// The setting of the watchdog.
+    pub fn watchdog(&self) -> WatchdogSetting
+        ensures { result ≡ watchdog_setting self.now.words.now }
+    {
+        let config = watchdog_word(self.words, WatchdogRegister::Config0);
+        let prescaler = watchdog_word(self.words, WatchdogRegister::Config1) >> 16;
+        WatchdogSetting {
+            enabled: is_set(config, 31),
+            actions: actions(config),
+            prescaler: prescaler as u16,
+            holds: Stages {
+                stage0: watchdog_word(self.words, WatchdogRegister::Config2),
+                stage1: watchdog_word(self.words, WatchdogRegister::Config3),
+                stage2: watchdog_word(self.words, WatchdogRegister::Config4),
+                stage3: watchdog_word(self.words, WatchdogRegister::Config5),
+            },
+        }
     }
 }
 
@@ -152,17 +174,16 @@ pub fn settings<B: Block>(block: &B, origins: Origins) -> Settings
 {
     let chip = block.chip();
     let words = block.words();
-    let timer1 = if chip.timers == 2 {
-        Some(timer_setting(&chip, &words, TimerNumber::One))
-    } else {
-        None
+    let readout = Readout {
+        chip: &chip,
+        words: &words,
     };
     Settings {
-        timer0: timer_setting(&chip, &words, TimerNumber::Zero),
-        timer1,
-        alarm0: alarm_setting(&words, AlarmNumber::Zero, origins.alarm0),
-        alarm1: alarm_setting(&words, AlarmNumber::One, origins.alarm1),
-        alarm2: alarm_setting(&words, AlarmNumber::Two, origins.alarm2),
-        watchdog: watchdog_setting(&words),
+        timer0: readout.timer(TimerNumber::Zero),
+        timer1: (chip.timers == 2).then_some(readout.timer(TimerNumber::One)),
+        alarm0: readout.alarm(AlarmNumber::Zero, origins.alarm0),
+        alarm1: readout.alarm(AlarmNumber::One, origins.alarm1),
+        alarm2: readout.alarm(AlarmNumber::Two, origins.alarm2),
+        watchdog: readout.watchdog(),
     }
 }

@@ -1,9 +1,10 @@
 // The settings as text, a line for each part.
-ghost use Rattle.std.specs.Prelude.{◌≡◌, Some, decimal};
+ghost use Rattle.std.specs.Prelude.{Some, codes, decimal};
+ghost use Rattle.std.specs.Fmt.{◌++?◌};
 ghost use Rattle.setting.specs.Watchdogs.{action_number};
-ghost use Rattle.setting.specs.Texts.{timing_text, timer_text, actions_text, holds_text, watchdog_text, settings_text};
+ghost use Rattle.setting.specs.Texts.{timing_text, timer_text, watchdog_text, settings_text};
 
-use crate::kinds::{Actions, Holds, Settings, StageAction, TimerSetting, Timing, WatchdogSetting};
+use crate::kinds::{Settings, StageAction, Stages, TimerSetting, Timing, WatchdogSetting};
 use std::fmt;
 
 impl fmt::Display for Timing {
@@ -22,23 +23,7 @@ impl fmt::Display for TimerSetting {
     ghost output = { λ s. Some (timer_text s) };
 
     fn fmt<W: fmt::Write>(&self, f: &mut fmt::Formatter<W>) -> fmt::Result {
-        let timing = self.timing;
-        let listening = u8::from(self.listening);
-        write!(f, "{timing} {listening}")
-    }
-}
-
-impl StageAction {
-    /// The number of an action in its stage's two bits.
-    pub fn number(&self) -> u8
-        ensures { result ≡ action_number self.now }
-    {
-        match self {
-            StageAction::Off => 0,
-            StageAction::Interrupt => 1,
-            StageAction::ResetCpu => 2,
-            StageAction::ResetSystem => 3,
-        }
+        write!(f, "{} {}", self.timing, u8::from(self.listening))
     }
 }
 
@@ -46,35 +31,20 @@ impl fmt::Display for StageAction {
     ghost output = { λ a. Some (decimal (action_number a)) };
 
     fn fmt<W: fmt::Write>(&self, f: &mut fmt::Formatter<W>) -> fmt::Result {
-        let number = self.number();
-        write!(f, "{number}")
+        write!(f, "{}", u8::from(*self))
     }
 }
 
-impl fmt::Display for Actions {
-    ghost output = { λ a. Some (actions_text a) };
+impl<T: fmt::Display> fmt::Display for Stages<T> {
+    ghost output = { λ s. T.output s.stage0 ++? Some (codes " ") ++? T.output s.stage1 ++? Some (codes " ") ++? T.output s.stage2 ++? Some (codes " ") ++? T.output s.stage3 };
 
     fn fmt<W: fmt::Write>(&self, f: &mut fmt::Formatter<W>) -> fmt::Result {
-        let Actions {
+        let Stages {
             stage0,
             stage1,
             stage2,
             stage3,
-        } = *self;
-        write!(f, "{stage0} {stage1} {stage2} {stage3}")
-    }
-}
-
-impl fmt::Display for Holds {
-    ghost output = { λ h. Some (holds_text h) };
-
-    fn fmt<W: fmt::Write>(&self, f: &mut fmt::Formatter<W>) -> fmt::Result {
-        let Holds {
-            stage0,
-            stage1,
-            stage2,
-            stage3,
-        } = *self;
+        } = self;
         write!(f, "{stage0} {stage1} {stage2} {stage3}")
     }
 }
@@ -84,10 +54,11 @@ impl fmt::Display for WatchdogSetting {
 
     fn fmt<W: fmt::Write>(&self, f: &mut fmt::Formatter<W>) -> fmt::Result {
         let enabled = u8::from(self.enabled);
-        let actions = self.actions;
-        let prescaler = self.prescaler;
-        let holds = self.holds;
-        write!(f, "{enabled} {actions} {prescaler} {holds}")
+        write!(
+            f,
+            "{enabled} {} {} {}",
+            self.actions, self.prescaler, self.holds
+        )
     }
 }
 
@@ -95,20 +66,13 @@ impl fmt::Display for Settings {
     ghost output = { λ s. Some (settings_text s) };
 
     fn fmt<W: fmt::Write>(&self, f: &mut fmt::Formatter<W>) -> fmt::Result {
-        let timer0 = self.timer0;
-        let alarm0 = self.alarm0;
-        let alarm1 = self.alarm1;
-        let alarm2 = self.alarm2;
-        let watchdog = self.watchdog;
-        match self.timer1 {
-            Some(timer1) => write!(
-                f,
-                "timer 0 {timer0}\ntimer 1 {timer1}\nalarm 0 {alarm0}\nalarm 1 {alarm1}\nalarm 2 {alarm2}\nwatchdog {watchdog}"
-            ),
-            None => write!(
-                f,
-                "timer 0 {timer0}\nalarm 0 {alarm0}\nalarm 1 {alarm1}\nalarm 2 {alarm2}\nwatchdog {watchdog}"
-            ),
+        writeln!(f, "timer 0 {}", self.timer0)?;
+        if let Some(timer1) = self.timer1 {
+            writeln!(f, "timer 1 {timer1}")?;
         }
+        writeln!(f, "alarm 0 {}", self.alarm0)?;
+        writeln!(f, "alarm 1 {}", self.alarm1)?;
+        writeln!(f, "alarm 2 {}", self.alarm2)?;
+        write!(f, "watchdog {}", self.watchdog)
     }
 }

@@ -8,9 +8,8 @@ use Rattle.setting.specs.Readouts.{settings_of}
 use Rattle.setting.specs.declared.kinds.Origins.{Origins}
 use Rattle.setting.specs.declared.kinds.Settings.{Settings}
 use Rattle.verdict.specs.declared.Verdict.{Verdict}
-use Rattle.verdict.specs.declared.Which.{Which}
-use Rattle.verdict.specs.declared.Which.TheVariants.{First, Second}
 use Rattle.verdict.specs.declared.RefusedList.{RefusedList}
+use Rattle.verdict.specs.declared.RefusedList.TheVariants.{First, Second}
 
 -- Every alarm's delay began at 0.
 abbrev pub zero_origins : Origins
@@ -36,9 +35,9 @@ pub record Lists (chip : Chip) (a b : List ℕ) (v : Verdict) : Type 0 where
   pub judged : Judged (list_settings chip a) (list_settings chip b) v
 
 -- The refusal of one of two lists, by its own number and values; the first list is asked first.
-abbrev pub Refuses : Which → RefusedList → List ℕ → List ℕ → Type 0
-Refuses First e a b = refusal e.error ≡ replay_outcome a
-Refuses Second e a b = (replay_outcome a ≡ Accepted) × (refusal e.error ≡ replay_outcome b)
+abbrev pub Refuses : RefusedList → List ℕ → List ℕ → Type 0
+Refuses (First error) a b = refusal error ≡ replay_outcome a
+Refuses (Second error) a b = (replay_outcome a ≡ Accepted) × (refusal error ≡ replay_outcome b)
 
 -- Every part is the same.
 abbrev pub all_same : Verdict → Bool

@@ -1,7 +1,7 @@
 // The settings of a write list, and the verdict on two.
 #![tactic(auto)]
 
-ghost use Rattle.std.specs.Prelude.{◌≡◌, Ok, Err};
+ghost use Rattle.std.specs.Prelude.{◌≡◌, Ok, Err, IfOk};
 ghost use Rattle.base.specs.Refusals.{outcome};
 ghost use Rattle.block.specs.Replays.{replay_outcome};
 ghost use Rattle.verdict.specs.Verdicts.{list_settings, Judged, Lists, Refuses, all_same};
@@ -27,33 +27,21 @@ pub struct Verdict {
     pub watchdog: bool,
 }
 
-/// Which of two lists.
-#[derive(Clone, Copy)]
-pub enum Which {
-    First,
-    Second,
-}
-
-/// One of two lists was refused.
-#[derive(Clone, Copy)]
-pub struct RefusedList {
-    pub list: Which,
-    pub error: Error,
+/// Which of two lists was refused, and why.
+#[derive(Clone, Copy, PartialEq, Eq, Debug)]
+pub enum RefusedList {
+    First(Error),
+    Second(Error),
 }
 
 /// What a write list sets on a new block of the profile, whose alarms' delays begin at 0; or the list's refusal.
 pub fn settings_of_list(profile: Profile, list: &[u8]) -> Result<Settings, Error>
     ensures answer { outcome result ≡ replay_outcome list.now }
-    ensures settings { elim result [ Ok s ↦ s ≡ list_settings profile.chip list.now | Err e ↦ Unit {0} ] }
+    ensures settings { IfOk result (λ s. s ≡ list_settings profile.chip list.now) }
 {
     let (mut block, _) = SimulatedBlock::new(profile);
     replay(&mut block, list)?;
-    let origins = Origins {
-        alarm0: 0,
-        alarm1: 0,
-        alarm2: 0,
-    };
-    Ok(settings(&block, origins))
+    Ok(settings(&block, Origins::default()))
 }
 
 /// Compares two blocks' settings, part by part.
@@ -72,22 +60,10 @@ pub fn judge(first: &Settings, second: &Settings) -> Verdict
 
 /// The verdict on two write lists, each replayed on a new block of the profile; or the refusal of the first that is refused.
 pub fn judge_lists(profile: Profile, first: &[u8], second: &[u8]) -> Result<Verdict, RefusedList>
-    ensures { elim result [ Ok v ↦ Lists profile.chip first.now second.now v | Err e ↦ Refuses e.list e first.now second.now ] }
+    ensures { elim result [ Ok v ↦ Lists profile.chip first.now second.now v | Err e ↦ Refuses e first.now second.now ] }
 {
-    let ours = match settings_of_list(profile, first) {
-        Ok(settings) => settings,
-        Err(error) => return Err(RefusedList {
-            list: Which::First,
-            error,
-        }),
-    };
-    let theirs = match settings_of_list(profile, second) {
-        Ok(settings) => settings,
-        Err(error) => return Err(RefusedList {
-            list: Which::Second,
-            error,
-        }),
-    };
+    let ours = settings_of_list(profile, first).map_err(RefusedList::First)?;
+    let theirs = settings_of_list(profile, second).map_err(RefusedList::Second)?;
     Ok(judge(&ours, &theirs))
 }
 

@@ -57,11 +57,10 @@ fn first_refused_list_is_told(rt: HostRuntime) -> Result<(), Fail> {
     let Err(refused) = judge_lists(Profile::bench(), &[0], &[]) else {
         return Err(Fail::new("the first list was accepted"));
     };
-    assert!(rt; matches!(refused.list, Which::First));
+    assert!(rt; matches!(refused, RefusedList::First(_)));
     let Err(refused) = judge_lists(Profile::bench(), &[], &[49, 0, 0, 0, 0, 0, 0, 0]) else {
         return Err(Fail::new("the second list was accepted"));
     };
-    assert!(rt; matches!(refused.list, Which::Second));
-    assert_eq!(rt; refused.error, Error::BadRecord(0));
+    assert_eq!(rt; refused, RefusedList::Second(Error::BadRecord(0)));
     Ok(())
 }
