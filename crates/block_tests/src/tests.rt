@@ -161,7 +161,7 @@ fn replayed(place: u8, f0: u8, f1: u8, f2: u8) -> (Result<(), Error>, u32) {
     let answer = replay(&mut block, &list);
     (
         answer,
-        word_at(&block.words(), Place::group(GroupRegister::IntEna)),
+        word_at(&block.words(), Place::from(GroupRegister::IntEna)),
     )
 }
 
@@ -221,7 +221,7 @@ fn bad_length_puts_nothing(rt: HostRuntime) {
     let list = [26, 0, 0, 0, 1, 0, 0, 0, 26];
     assert_eq!(rt; replay(&mut block, &list), Err(Error::BadLength(1)));
     assert_eq!(rt;
-        word_at(&block.words(), Place::group(GroupRegister::IntEna)),
+        word_at(&block.words(), Place::from(GroupRegister::IntEna)),
         0
     );
 }
@@ -229,7 +229,7 @@ fn bad_length_puts_nothing(rt: HostRuntime) {
 // Three puts on a recorder over a list of `length` bytes, and how many it counts.
 fn three_puts(list: &mut [u8]) -> u64 {
     let (mut block, _) = Recorder::new(Profile::bench(), list);
-    let int_ena = Place::group(GroupRegister::IntEna);
+    let int_ena = Place::from(GroupRegister::IntEna);
     block.put(int_ena, 0x0403_0201);
     let _ = block.get(int_ena);
     block.put(

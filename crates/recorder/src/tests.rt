@@ -7,7 +7,7 @@ fn count_stays_at_its_largest(rt: HostRuntime) {
     let mut list = [7; 8];
     let (mut block, _) = Recorder::new(Profile::bench(), &mut list);
     block.puts = u64::MAX - 1;
-    let int_ena = Place::group(GroupRegister::IntEna);
+    let int_ena = Place::from(GroupRegister::IntEna);
     block.put(int_ena, 1);
     assert_eq!(rt; block.puts(), u64::MAX);
     block.put(int_ena, 2);

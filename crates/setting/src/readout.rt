@@ -97,8 +97,8 @@ impl Readout<'_> {
         if self.chip.level {
             is_set(self.word(Place::timer(number, TimerRegister::Config)), 11)
         } else {
-            let enabled = self.word(Place::group(GroupRegister::IntEna));
-            is_set(enabled, number.index())
+            let enabled = self.word(Place::from(GroupRegister::IntEna));
+            is_set(enabled, u8::from(number))
         }
     }
 
@@ -134,10 +134,10 @@ impl Readout<'_> {
     pub fn alarm(&self, number: AlarmNumber, origin: u64) -> TimerSetting
         ensures { result ≡ alarm_setting origin number self.now.words.now }
     {
-        let channel = number.index();
-        let running = self.word(Place::system(SystemRegister::Conf));
+        let channel = u8::from(number);
+        let running = self.word(Place::from(SystemRegister::Conf));
         let conf = self.word(Place::alarm(number, AlarmRegister::TargetConf));
-        let enabled = self.word(Place::system(SystemRegister::IntEna));
+        let enabled = self.word(Place::from(SystemRegister::IntEna));
         TimerSetting {
             timing: timing(
                 is_set(running, 24 - channel),

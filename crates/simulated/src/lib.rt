@@ -58,7 +58,7 @@ impl SimulatedBlock {
         ensures block { simulated_means self.new ≡ with_word (group_place Valid) valid (simulated_means self.old) }
         ensures comparators { self.new.comparators ≡ self.old.comparators }
     {
-        self.file.set(Place::group(GroupRegister::Valid), valid);
+        self.file.set(Place::from(GroupRegister::Valid), valid);
     }
 }
 
