@@ -45,14 +45,11 @@ unloaded_due kind h m repeat =
 
 -- The timer then runs where the load was accepted and else stands, with its repeat set and no interrupt pending; it is due after the ticks, or where the load was refused as before it.
 abbrev pub arm_view : Bool → ℕ → ℕ → View → View
-arm_view repeat us before v = record {
+arm_view repeat us before v = record v {
   run = accepted (arm_outcome repeat us v);
   repeat = repeat;
   pending = false;
-  listening = v.listening;
   due = due_by (v.ticks repeat us) (v.is_open repeat) before;
-  is_open = v.is_open;
-  ticks = v.ticks;
 }
 
 -- `finish` is refused with 3 where no interrupt is pending.
