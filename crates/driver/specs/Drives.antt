@@ -8,6 +8,7 @@ use Rattle.time.specs.Counts.{micros}
 use Rattle.time.specs.declared.duration.Duration.{Duration}
 use Rattle.timer.specs.Views.{View, with_run, with_pending, with_listening, outcome_by, due_by}
 use Rattle.timer.specs.Kinds.{Kind, Ask, Start, Stop, Reset, AskRunning, Load, Reload, Listen, Clear, AskPending}
+use Rattle.driver.specs.declared.Driver.{Driver}
 use Rattle.driver.specs.declared.call.Call.{Call}
 use Rattle.driver.specs.declared.call.Call.TheVariants.{Schedule, DelayNanos, Finish, Stop as StopIt, Start as StartIt, Wait, Cancel, ClearInterrupt, Listen as ListenTo}
 use Rattle.timer.specs.Calls.{meaning_after, handle_after, Asked}
@@ -44,14 +45,11 @@ unloaded_due kind h m repeat =
 
 -- The timer then runs where the load was accepted and else stands, with its repeat set and no interrupt pending; it is due after the ticks, or where the load was refused as before it.
 abbrev pub arm_view : Bool → ℕ → ℕ → View → View
-arm_view repeat us before v = record {
+arm_view repeat us before v = record v {
   run = accepted (arm_outcome repeat us v);
   repeat = repeat;
   pending = false;
-  listening = v.listening;
   due = due_by (v.ticks repeat us) (v.is_open repeat) before;
-  is_open = v.is_open;
-  ticks = v.ticks;
 }
 
 -- `finish` is refused with 3 where no interrupt is pending.
@@ -137,3 +135,15 @@ arming true d = StartIt d
 -- A driver holds the same two loans, of a handle and of a block, as before.
 abbrev pub SameLoans : {K S : Type 0} → MutBor K → MutBor S → MutBor K → MutBor S → Type 0
 SameLoans h s g t = (g.ghost_name ≡ h.ghost_name) × (t.ghost_name ≡ s.ghost_name)
+
+-- A driver's call leads from driver d to driver e: it was made with the handle and the block that d holds, ended so, and e holds the same two loans. In its type a driver's REPEAT is a number.
+pub record Makes {K S : Type 0} {repeat : ℕ} (kind : Kind K) (b : Model S) (d : Driver K S repeat) (call : Call) (o : Outcome) (e : Driver K S repeat) : Type 0 where
+  pub made : Made kind b d.handle.now d.block.now call o e.handle.now e.block.now
+  pub loans : SameLoans d.handle d.block e.handle e.block
+
+-- Where a driver's timer has this repeat already, setting it keeps its due until the load.
+abbrev pub KeepsDue : {K S : Type 0} {repeat : ℕ} → Kind K → Model S → Driver K S repeat → Bool → Type 0
+KeepsDue kind b d again =
+    let m : Meaning = b.means d.block.now in
+    let v : View = kind.view d.handle.now m in
+    v.repeat ≡ again → unloaded_due kind d.handle.now m again ≡ v.due

@@ -1,5 +1,6 @@
 -- What a step of a job does. Assumes nothing.
 use Rattle.std.specs.Prelude.{◌≡◌, [], Some, None, Option}
+use Rattle.std.specs.Option.{option_map}
 use Rattle.base.specs.Refusals.{Outcome, Refused}
 use Rattle.block.specs.Model.{Model}
 use Rattle.base.specs.declared.numbers.TimerNumber.TheVariants.{Zero, One}
@@ -17,22 +18,6 @@ use Rattle.jobs.specs.declared.bench.Bench.{Bench}
 use Rattle.jobs.specs.declared.bench.Step.{Step}
 use Rattle.jobs.specs.declared.bench.Step.TheVariants.{Timer, Alarm}
 
--- The same bench with another handle of timer 0; and so for each part.
-abbrev pub with_timer0 : {T A : Type 0} → T → Bench T A → Bench T A
-with_timer0 h x = record { timer0 = h; timer1 = x.timer1; alarm0 = x.alarm0; alarm1 = x.alarm1; alarm2 = x.alarm2 }
-
-abbrev pub with_timer1 : {T A : Type 0} → Option T → Bench T A → Bench T A
-with_timer1 h x = record { timer0 = x.timer0; timer1 = h; alarm0 = x.alarm0; alarm1 = x.alarm1; alarm2 = x.alarm2 }
-
-abbrev pub with_alarm0 : {T A : Type 0} → A → Bench T A → Bench T A
-with_alarm0 h x = record { timer0 = x.timer0; timer1 = x.timer1; alarm0 = h; alarm1 = x.alarm1; alarm2 = x.alarm2 }
-
-abbrev pub with_alarm1 : {T A : Type 0} → A → Bench T A → Bench T A
-with_alarm1 h x = record { timer0 = x.timer0; timer1 = x.timer1; alarm0 = x.alarm0; alarm1 = h; alarm2 = x.alarm2 }
-
-abbrev pub with_alarm2 : {T A : Type 0} → A → Bench T A → Bench T A
-with_alarm2 h x = record { timer0 = x.timer0; timer1 = x.timer1; alarm0 = x.alarm0; alarm1 = x.alarm1; alarm2 = h }
-
 module _ {K S : Type 0} (kind : Kind K) (b : Model S) where
   -- A call with a handle that may be absent: it is made where there is one, and else refused with 6, with nothing done.
   abbrev pub MadeIf : Option K → S → Call → Outcome → Option K → S → Type 0
@@ -42,11 +27,11 @@ module _ {K S : Type 0} (kind : Kind K) (b : Model S) where
 module _ {T A S : Type 0} (timers : Kind T) (alarms : Kind A) (b : Model S) where
   -- A step leads from bench x and block s to bench y and block t: its call is made with the handle of its part, and every other handle stays as it was.
   abbrev pub Stepped : Bench T A → S → Step → Outcome → Bench T A → S → Type 0
-  Stepped x s (Timer Zero call) o y t = Made timers b x.timer0 s call o y.timer0 t × (y ≡ with_timer0 y.timer0 x)
-  Stepped x s (Timer One call) o y t = MadeIf timers b x.timer1 s call o y.timer1 t × (y ≡ with_timer1 y.timer1 x)
-  Stepped x s (Alarm Zero' call) o y t = Made alarms b x.alarm0 s call o y.alarm0 t × (y ≡ with_alarm0 y.alarm0 x)
-  Stepped x s (Alarm One' call) o y t = Made alarms b x.alarm1 s call o y.alarm1 t × (y ≡ with_alarm1 y.alarm1 x)
-  Stepped x s (Alarm Two' call) o y t = Made alarms b x.alarm2 s call o y.alarm2 t × (y ≡ with_alarm2 y.alarm2 x)
+  Stepped x s (Timer Zero call) o y t = Made timers b x.timer0 s call o y.timer0 t × (y ≡ record x { timer0 = y.timer0 })
+  Stepped x s (Timer One call) o y t = MadeIf timers b x.timer1 s call o y.timer1 t × (y ≡ record x { timer1 = y.timer1 })
+  Stepped x s (Alarm Zero' call) o y t = Made alarms b x.alarm0 s call o y.alarm0 t × (y ≡ record x { alarm0 = y.alarm0 })
+  Stepped x s (Alarm One' call) o y t = Made alarms b x.alarm1 s call o y.alarm1 t × (y ≡ record x { alarm1 = y.alarm1 })
+  Stepped x s (Alarm Two' call) o y t = Made alarms b x.alarm2 s call o y.alarm2 t × (y ≡ record x { alarm2 = y.alarm2 })
 
 -- The group timer of a handle.
 abbrev pub timer_of : TimerHandle → GroupTimer
@@ -56,16 +41,11 @@ timer_of h = record { handle = h }
 abbrev pub alarm_of : AlarmHandle → AlarmKind
 alarm_of h = record { handle = h; origin = 0 }
 
--- A group timer for each handle of a timer that there is.
-abbrev pub timer_if : Option TimerHandle → Option GroupTimer
-timer_if None = None
-timer_if (Some h) = Some (timer_of h)
-
 -- The bench of a block's handles.
 abbrev pub bench_of : Handles → Bench GroupTimer AlarmKind
 bench_of hs = record {
   timer0 = timer_of hs.timer0;
-  timer1 = timer_if hs.timer1;
+  timer1 = option_map timer_of hs.timer1;
   alarm0 = alarm_of hs.alarm0;
   alarm1 = alarm_of hs.alarm1;
   alarm2 = alarm_of hs.alarm2;

@@ -1,7 +1,7 @@
 // The timers and alarms of one block, and the steps of a job on them.
 ghost use Rattle.std.specs.Prelude.{◌≡◌};
 ghost use Rattle.base.specs.Refusals.{outcome};
-ghost use Rattle.jobs.specs.Steps.{MadeIf, Stepped, bench_of, origins_of};
+ghost use Rattle.jobs.specs.Steps.{Stepped, bench_of, origins_of};
 
 use crate::make::make;
 use base::error::Error;
@@ -31,20 +31,6 @@ pub struct Bench<T, A> {
     pub alarm2: A,
 }
 
-// Makes the call with a handle that may be absent.
-fn make_if<K: Timer, B: Block>(
-    handle: &mut Option<K>,
-    block: &mut B,
-    call: Call,
-) -> Result<(), Error>
-    ensures { MadeIf K.Timer.kind B.Block.model handle.old block.old call (outcome result) handle.new block.new }
-{
-    match handle {
-        Some(handle) => make(handle, block, call),
-        None => Err(Error::NoSuchPart),
-    }
-}
-
 impl<T: Timer, A: Timer> Bench<T, A> {
     /// Makes the step's call with the handle of its part; refused where the block has no such part.
     pub fn perform<B: Block>(&mut self, block: &mut B, step: Step) -> Result<(), Error>
@@ -52,7 +38,9 @@ impl<T: Timer, A: Timer> Bench<T, A> {
     {
         match step {
             Step::Timer(TimerNumber::Zero, call) => make(&mut self.timer0, block, call),
-            Step::Timer(TimerNumber::One, call) => make_if(&mut self.timer1, block, call),
+            Step::Timer(TimerNumber::One, call) => {
+                make(self.timer1.as_mut().ok_or(Error::NoSuchPart)?, block, call)
+            }
             Step::Alarm(AlarmNumber::Zero, call) => make(&mut self.alarm0, block, call),
             Step::Alarm(AlarmNumber::One, call) => make(&mut self.alarm1, block, call),
             Step::Alarm(AlarmNumber::Two, call) => make(&mut self.alarm2, block, call),
@@ -65,13 +53,9 @@ impl Bench<GroupTimer, Alarm> {
     pub fn new(handles: Handles) -> Self
         ensures { result ≡ bench_of handles }
     {
-        let timer1 = match handles.timer1 {
-            Some(handle) => Some(GroupTimer::new(handle)),
-            None => None,
-        };
         Bench {
             timer0: GroupTimer::new(handles.timer0),
-            timer1,
+            timer1: handles.timer1.map(GroupTimer::new),
             alarm0: Alarm::new(handles.alarm0),
             alarm1: Alarm::new(handles.alarm1),
             alarm2: Alarm::new(handles.alarm2),

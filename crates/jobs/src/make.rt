@@ -14,23 +14,15 @@ pub fn make<K: Timer, B: Block>(handle: &mut K, block: &mut B, call: Call) -> Re
     ensures { Made K.Timer.kind B.Block.model handle.old block.old call (outcome result) handle.new block.new }
 {
     match call {
-        Call::Schedule(timeout) => OneShotTimer::new(handle, block).schedule(timeout),
-        Call::DelayNanos(ns) => OneShotTimer::new(handle, block).delay_nanos(ns),
-        Call::Finish => OneShotTimer::new(handle, block).finish(),
-        Call::Stop => {
-            OneShotTimer::new(handle, block).stop();
-            Ok(())
-        }
-        Call::Start(period) => PeriodicTimer::new(handle, block).start(period),
-        Call::Wait => PeriodicTimer::new(handle, block).wait(),
-        Call::Cancel => PeriodicTimer::new(handle, block).cancel(),
-        Call::ClearInterrupt => {
-            OneShotTimer::new(handle, block).clear_interrupt();
-            Ok(())
-        }
-        Call::Listen(state) => {
-            OneShotTimer::new(handle, block).listen(state);
-            Ok(())
-        }
+        Call::Schedule(timeout) => OneShotTimer::new(handle, block).schedule(timeout)?,
+        Call::DelayNanos(ns) => OneShotTimer::new(handle, block).delay_nanos(ns)?,
+        Call::Finish => OneShotTimer::new(handle, block).finish()?,
+        Call::Stop => OneShotTimer::new(handle, block).stop(),
+        Call::Start(period) => PeriodicTimer::new(handle, block).start(period)?,
+        Call::Wait => PeriodicTimer::new(handle, block).wait()?,
+        Call::Cancel => PeriodicTimer::new(handle, block).cancel()?,
+        Call::ClearInterrupt => OneShotTimer::new(handle, block).clear_interrupt(),
+        Call::Listen(state) => OneShotTimer::new(handle, block).listen(state),
     }
+    Ok(())
 }
