@@ -2,29 +2,37 @@
 use base::numbers::{AlarmNumber, TimerNumber};
 use driver::call::Call;
 use jobs::bench::Step;
+use std::alloc::{AllocError, Global};
+use thiserror::Error;
 use time::Duration;
 
-/// What a line is.
+/// A step of a job, with the line that asks for it.
 #[derive(Clone, Copy)]
-pub enum Line {
-    /// a call on a part
-    Call(Step),
-    /// blank, or a remark behind `#`
-    Remark,
-    /// none of these
-    Bad,
+pub struct Request<'a> {
+    pub line: &'a str,
+    pub step: Step,
+}
+
+/// Why a job can't be read.
+#[derive(Debug, Drop, Error)]
+pub enum ReadError {
+    /// The first line that can't be read, by its number from 1.
+    #[error("refused line {0}")]
+    BadLine(usize),
+    #[error(transparent)]
+    Memory(#[from(alloc)] AllocError),
 }
 
 // A duration in microseconds.
 fn read_duration(word: &str) -> Option<Duration> {
-    Some(Duration::from_micros(word.parse::<u64>().ok()?))
+    word.parse().ok().map(Duration::from_micros)
 }
 
 // A call by its name and its argument.
 fn read_call(name: &str, argument: Option<&str>) -> Option<Call> {
     match (name, argument) {
         ("schedule", Some(word)) => Some(Call::Schedule(read_duration(word)?)),
-        ("delay_nanos", Some(word)) => Some(Call::DelayNanos(word.parse::<u32>().ok()?)),
+        ("delay_nanos", Some(word)) => Some(Call::DelayNanos(word.parse().ok()?)),
         ("finish", None) => Some(Call::Finish),
         ("stop", None) => Some(Call::Stop),
         ("start", Some(word)) => Some(Call::Start(read_duration(word)?)),
@@ -41,30 +49,26 @@ fn read_call(name: &str, argument: Option<&str>) -> Option<Call> {
 fn read_step(line: &str) -> Option<Step> {
     let mut words = line.split_ascii_whitespace();
     let part = words.next()?;
-    let name = words.next()?;
-    let argument = words.next();
-    if words.next().is_some() {
-        return None;
-    }
-    let call = read_call(name, argument)?;
-    match part {
-        "timer0" => Some(Step::Timer(TimerNumber::Zero, call)),
-        "timer1" => Some(Step::Timer(TimerNumber::One, call)),
-        "alarm0" => Some(Step::Alarm(AlarmNumber::Zero, call)),
-        "alarm1" => Some(Step::Alarm(AlarmNumber::One, call)),
-        "alarm2" => Some(Step::Alarm(AlarmNumber::Two, call)),
+    let call = read_call(words.next()?, words.next())?;
+    match (part, words.next()) {
+        ("timer0", None) => Some(Step::Timer(TimerNumber::Zero, call)),
+        ("timer1", None) => Some(Step::Timer(TimerNumber::One, call)),
+        ("alarm0", None) => Some(Step::Alarm(AlarmNumber::Zero, call)),
+        ("alarm1", None) => Some(Step::Alarm(AlarmNumber::One, call)),
+        ("alarm2", None) => Some(Step::Alarm(AlarmNumber::Two, call)),
         _ => None,
     }
 }
 
-/// Reads a line of a job.
-pub fn read_line(line: &str) -> Line {
-    let text = line.trim();
-    if text.is_empty() || text.starts_with('#') {
-        return Line::Remark;
+/// The steps of a job in their order: a line each, but for those that are blank or a remark behind `#`.
+pub fn read_job(heap: Global, text: &str) -> Result<Vec<Request<'_>>, ReadError> {
+    let mut job = Vec::new(heap);
+    for (number, line) in (1..).zip(text.lines().map(str::trim)) {
+        if line.is_empty() || line.starts_with('#') {
+            continue;
+        }
+        let step = read_step(line).ok_or(ReadError::BadLine(number))?;
+        job.push(Request { line, step })?;
     }
-    match read_step(text) {
-        Some(step) => Line::Call(step),
-        None => Line::Bad,
-    }
+    Ok(job)
 }

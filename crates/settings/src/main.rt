@@ -1,7 +1,7 @@
 // Reads a write list from standard input and prints what it sets on a new block of the bench unit.
 #![tactic(auto)]
 
-use anyhow::anyhow;
+use anyhow::bail;
 use base::profile::Profile;
 use std::io;
 use std::io::Read;
@@ -19,13 +19,11 @@ fn read_list(rt: &HostRuntime) -> io::Result<Vec<u8>> {
 fn main(rt: HostRuntime) -> anyhow::Result<()> {
     let list = read_list(&rt)?;
     match settings_of_list(Profile::bench(), &list) {
-        Ok(settings) => {
-            println!(rt; "{settings}")?;
-            Ok(())
-        }
+        Ok(settings) => println!(rt; "{settings}")?,
         Err(error) => {
             println!(rt; "{error}")?;
-            Err(anyhow!("the list is refused"))
+            bail!("the list is refused");
         }
     }
+    Ok(())
 }

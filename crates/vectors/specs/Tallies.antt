@@ -15,14 +15,12 @@ abbrev pub more : ℕ → ℕ
 more n = min (n + 1) (2 ^ 64 - 1)
 
 abbrev pub with_block : Tally → Tally
-with_block t = record { blocks = more t.blocks; alike = t.alike; departed = t.departed }
+with_block t = record t { blocks = more t.blocks }
 
 abbrev pub with_alike : Tally → Tally
-with_alike t = record { blocks = t.blocks; alike = more t.alike; departed = t.departed }
+with_alike t = record t { alike = more t.alike }
 
 abbrev pub with_departure : Departure → Tally → Tally
-with_departure d t = record {
-  blocks = t.blocks;
-  alike = t.alike;
-  departed = slice_set t.departed (departure_number d) (more (slice_index t.departed (departure_number d)));
-}
+with_departure d t =
+    let n = departure_number d in
+    record t { departed = slice_set t.departed n (more (slice_index t.departed n)) }

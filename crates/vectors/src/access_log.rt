@@ -2,6 +2,7 @@
 ghost use Rattle.std.specs.Prelude.{◌≡◌};
 ghost use Rattle.vectors.specs.Logging.{no_accesses, noted};
 
+use arrayvec::ArrayVec;
 use std::fmt;
 
 /// One access of a block: a get at a place, or a put of a word there.
@@ -9,6 +10,13 @@ use std::fmt;
 pub enum Access {
     Get(u8),
     Put(u8, u32),
+}
+
+// What a log's room is filled with before there are accesses.
+impl Default for Access {
+    fn default() -> Access {
+        Access::Get(0)
+    }
 }
 
 impl fmt::Display for Access {
@@ -26,8 +34,8 @@ const ROOM: usize = 64;
 /// Accesses in their order. Those past the room are counted and not kept.
 #[derive(Drop)]
 pub struct AccessLog {
-    accesses: [Access; ROOM],
-    count: usize,
+    kept: ArrayVec<Access, ROOM>,
+    left_out: u64,
 }
 
 impl AccessLog {
@@ -36,8 +44,8 @@ impl AccessLog {
         ensures { result ≡ no_accesses }
     {
         AccessLog {
-            accesses: [Access::Get(0); ROOM],
-            count: 0,
+            kept: ArrayVec::new(),
+            left_out: 0,
         }
     }
 
@@ -45,21 +53,19 @@ impl AccessLog {
     pub fn note(&mut self, access: Access)
         ensures { self.new ≡ noted self.old access }
     {
-        let count = self.count;
-        if count < ROOM {
-            self.accesses[count] = access;
+        if self.kept.try_push(access).is_err() {
+            self.left_out = self.left_out.saturating_add(1);
         }
-        self.count = count.saturating_add(1);
     }
 }
 
 /// Each access behind a space; dots at the end say that some are left out.
 impl fmt::Display for AccessLog {
     fn fmt<W: fmt::Write>(&self, f: &mut fmt::Formatter<W>) -> fmt::Result {
-        for access in self.accesses.iter().take(self.count) {
+        for access in &self.kept {
             write!(f, " {access}")?;
         }
-        if self.count > ROOM {
+        if self.left_out > 0 {
             write!(f, " ..")?;
         }
         Ok(())

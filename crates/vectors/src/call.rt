@@ -1,32 +1,7 @@
 // What can be asked of a timer or an alarm.
+use driver::call::Call as DriverCall;
 use time::Duration;
-
-/// The part that a call is made on.
-#[derive(Clone, Copy)]
-pub enum Part {
-    Timer0,
-    Timer1,
-    Alarm0,
-    Alarm1,
-    Alarm2,
-}
-
-/// A call of the driver that ends once.
-#[derive(Clone, Copy)]
-pub enum OneShotCall {
-    Schedule(Duration),
-    DelayNanos(u32),
-    Stop,
-    Listen(bool),
-}
-
-/// A call of the driver that ends again and again.
-#[derive(Clone, Copy)]
-pub enum PeriodicCall {
-    Start(Duration),
-    Wait,
-    Cancel,
-}
+use timer::part::Part;
 
 /// A call of a kind of timer, without a driver.
 #[derive(Clone, Copy)]
@@ -46,7 +21,13 @@ pub enum KindCall {
 /// A call with its argument, and whom it is made of.
 #[derive(Clone, Copy)]
 pub enum Call {
-    OneShot(OneShotCall),
-    Periodic(PeriodicCall),
+    Driver(DriverCall),
     Kind(KindCall),
+}
+
+/// A call and the part that it is made on.
+#[derive(Clone, Copy)]
+pub struct Request {
+    pub part: Part,
+    pub call: Call,
 }

@@ -1,16 +1,15 @@
 // The single words of a line.
 
-/// A number, decimal or hexadecimal behind `0x`.
-pub fn number(word: &str) -> Option<u64> {
-    match word.strip_prefix("0x") {
-        Some(digits) => u64::from_str_radix(digits, 16).ok(),
-        None => word.parse::<u64>().ok(),
-    }
-}
-
-/// A number of 32 bits.
-pub fn number32(word: &str) -> Option<u32> {
-    u32::try_from(number(word)?).ok()
+/// A number of any type, decimal or hexadecimal behind `0x`.
+pub fn number<N: TryFrom<u64>>(word: &str) -> Option<N>
+where
+    N::Error: Drop,
+{
+    let number = match word.strip_prefix("0x") {
+        Some(digits) => u64::from_str_radix(digits, 16),
+        None => word.parse(),
+    };
+    N::try_from(number.ok()?).ok()
 }
 
 /// `0` or `1`.

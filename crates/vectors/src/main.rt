@@ -12,20 +12,18 @@ mod replay;
 mod step;
 mod tally;
 
-use anyhow::anyhow;
-use replay::replay as replay_lines;
+use anyhow::bail;
+use replay::replay_lines;
 use std::io;
 
 fn main(rt: HostRuntime) -> anyhow::Result<()> {
     let text = io::read_to_string(rt.alloc(), rt.stdin())?;
     match replay_lines(rt.alloc(), text.as_str()) {
-        Ok(tally) => {
-            println!(rt; "{tally}")?;
-            Ok(())
-        }
+        Ok(tally) => println!(rt; "{tally}")?,
         Err(failure) => {
             println!(rt; "{failure}")?;
-            Err(anyhow!("the port differs"))
+            bail!("the port differs");
         }
     }
+    Ok(())
 }

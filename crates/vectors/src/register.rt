@@ -1,5 +1,5 @@
-// The registers by their names and by the indices of their places.
-ghost use Rattle.std.specs.Prelude.{◌≡◌, ◌+◌, ◌<◌, ◌≤◌, Some, None};
+// The registers by the indices of their places.
+ghost use Rattle.std.specs.Prelude.{◌≡◌, ◌+◌, ◌<◌, ◌≤◌, Ok, Err};
 ghost use Rattle.base.specs.Numbers.{alarm_number};
 ghost use Rattle.block.specs.Places.{timer_offset, group_place, system_place, alarm_place};
 ghost use Rattle.vectors.specs.Registers.{register_place, Nameless};
@@ -17,93 +17,101 @@ pub enum Register {
     OfAlarm(AlarmNumber, AlarmRegister),
 }
 
-fn timer_register(offset: u64) -> Option<TimerRegister>
-    ensures { elim result [ Some x ↦ timer_offset x ≡ offset | None ↦ 9 ≤ offset ] }
+/// The place with the index is the watchdog's, or there is none.
+#[derive(Clone, Copy)]
+pub struct NoRegister;
+
+fn timer_register(offset: u64) -> Result<TimerRegister, NoRegister>
+    ensures { elim result [ Ok x ↦ timer_offset x ≡ offset | Err _ ↦ 9 ≤ offset ] }
 {
-    match offset {
-        0 => Some(TimerRegister::Config),
-        1 => Some(TimerRegister::Lo),
-        2 => Some(TimerRegister::Hi),
-        3 => Some(TimerRegister::Update),
-        4 => Some(TimerRegister::AlarmLo),
-        5 => Some(TimerRegister::AlarmHi),
-        6 => Some(TimerRegister::LoadLo),
-        7 => Some(TimerRegister::LoadHi),
-        8 => Some(TimerRegister::Load),
-        _ => None,
-    }
+    Ok(match offset {
+        0 => TimerRegister::Config,
+        1 => TimerRegister::Lo,
+        2 => TimerRegister::Hi,
+        3 => TimerRegister::Update,
+        4 => TimerRegister::AlarmLo,
+        5 => TimerRegister::AlarmHi,
+        6 => TimerRegister::LoadLo,
+        7 => TimerRegister::LoadHi,
+        8 => TimerRegister::Load,
+        _ => return Err(NoRegister),
+    })
 }
 
-fn group_register(index: u64) -> Option<GroupRegister>
-    ensures { elim result [ Some x ↦ group_place x ≡ index | None ↦ (26 ≤ index → index < 30 → ⊥) ] }
+fn group_register(index: u64) -> Result<GroupRegister, NoRegister>
+    ensures { elim result [ Ok x ↦ group_place x ≡ index | Err _ ↦ (26 ≤ index → index < 30 → ⊥) ] }
 {
-    match index {
-        26 => Some(GroupRegister::IntEna),
-        27 => Some(GroupRegister::IntRaw),
-        28 => Some(GroupRegister::IntClr),
-        29 => Some(GroupRegister::Valid),
-        _ => None,
-    }
+    Ok(match index {
+        26 => GroupRegister::IntEna,
+        27 => GroupRegister::IntRaw,
+        28 => GroupRegister::IntClr,
+        29 => GroupRegister::Valid,
+        _ => return Err(NoRegister),
+    })
 }
 
-fn system_register(index: u64) -> Option<SystemRegister>
-    ensures { elim result [ Some x ↦ system_place x ≡ index | None ↦ (30 ≤ index → index < 34 → ⊥) × (46 ≤ index → index < 49 → ⊥) ] }
+fn system_register(index: u64) -> Result<SystemRegister, NoRegister>
+    ensures { elim result [ Ok x ↦ system_place x ≡ index | Err _ ↦ (30 ≤ index → index < 34 → ⊥) × (46 ≤ index → index < 49 → ⊥) ] }
 {
-    match index {
-        30 => Some(SystemRegister::Conf),
-        31 => Some(SystemRegister::Unit0Hi),
-        32 => Some(SystemRegister::Unit0Lo),
-        33 => Some(SystemRegister::Unit0Op),
-        46 => Some(SystemRegister::IntEna),
-        47 => Some(SystemRegister::IntRaw),
-        48 => Some(SystemRegister::IntClr),
-        _ => None,
-    }
+    Ok(match index {
+        30 => SystemRegister::Conf,
+        31 => SystemRegister::Unit0Hi,
+        32 => SystemRegister::Unit0Lo,
+        33 => SystemRegister::Unit0Op,
+        46 => SystemRegister::IntEna,
+        47 => SystemRegister::IntRaw,
+        48 => SystemRegister::IntClr,
+        _ => return Err(NoRegister),
+    })
 }
 
-fn alarm_number(index: u64) -> Option<AlarmNumber>
-    ensures { elim result [ Some x ↦ alarm_number x ≡ index | None ↦ 3 ≤ index ] }
+fn alarm_number(index: u64) -> Result<AlarmNumber, NoRegister>
+    ensures { elim result [ Ok x ↦ alarm_number x ≡ index | Err _ ↦ 3 ≤ index ] }
 {
-    match index {
-        0 => Some(AlarmNumber::Zero),
-        1 => Some(AlarmNumber::One),
-        2 => Some(AlarmNumber::Two),
-        _ => None,
-    }
+    Ok(match index {
+        0 => AlarmNumber::Zero,
+        1 => AlarmNumber::One,
+        2 => AlarmNumber::Two,
+        _ => return Err(NoRegister),
+    })
 }
 
-fn alarm_register(index: u64) -> Option<Register>
-    ensures { elim result [ Some x ↦ register_place x ≡ index | None ↦ (34 ≤ index → index < 46 → ⊥) ] }
+fn alarm_register(index: u64) -> Result<Register, NoRegister>
+    ensures { elim result [ Ok x ↦ register_place x ≡ index | Err _ ↦ (34 ≤ index → index < 46 → ⊥) ] }
 {
     let (channel, register) = match index {
         34 | 36 | 38 => ((index - 34) / 2, AlarmRegister::TargetHi),
         35 | 37 | 39 => ((index - 35) / 2, AlarmRegister::TargetLo),
         40..=42 => (index - 40, AlarmRegister::TargetConf),
         43..=45 => (index - 43, AlarmRegister::CompLoad),
-        _ => return None,
+        _ => return Err(NoRegister),
     };
-    Some(Register::OfAlarm(alarm_number(channel)?, register))
+    Ok(Register::OfAlarm(alarm_number(channel)?, register))
 }
 
-impl Register {
-    /// The register whose place has this index; none where it is the watchdog's or there is none.
-    pub fn at(index: u64) -> Option<Register>
-        ensures { elim result [ Some x ↦ register_place x ≡ index | None ↦ Nameless index ] }
-    {
-        match index {
-            0..=8 => Some(Register::OfTimer(TimerNumber::Zero, timer_register(index)?)),
-            9..=17 => Some(Register::OfTimer(TimerNumber::One, timer_register(index - 9)?)),
-            26..=29 => Some(Register::OfGroup(group_register(index)?)),
-            34..=45 => alarm_register(index),
-            _ => Some(Register::OfSystem(system_register(index)?)),
-        }
-    }
+/// The register whose place has this index.
+impl TryFrom<u64> for Register {
+    type Error = NoRegister;
 
-    /// Where the register is.
-    pub fn place(self) -> Place
-        ensures { result.index ≡ register_place self }
-    {
-        match self {
+    ghost try_from_gives = { λ index result. elim result [ Ok x ↦ register_place x ≡ index | Err _ ↦ Nameless index ] };
+
+    fn try_from(index: u64) -> Result<Register, NoRegister> {
+        Ok(match index {
+            0..=8 => Register::OfTimer(TimerNumber::Zero, timer_register(index)?),
+            9..=17 => Register::OfTimer(TimerNumber::One, timer_register(index - 9)?),
+            26..=29 => Register::OfGroup(group_register(index)?),
+            34..=45 => alarm_register(index)?,
+            _ => Register::OfSystem(system_register(index)?),
+        })
+    }
+}
+
+/// Where the register is.
+impl From<Register> for Place {
+    ghost from_gives = { λ register place. place.index ≡ register_place register };
+
+    fn from(register: Register) -> Place {
+        match register {
             Register::OfTimer(number, register) => Place::timer(number, register),
             Register::OfGroup(register) => Place::group(register),
             Register::OfSystem(register) => Place::system(register),

@@ -1,9 +1,9 @@
 // The replay of the vectors on the port.
-ghost use Rattle.std.specs.Prelude.{Ok, Err, string_bytes};
+ghost use Rattle.std.specs.Prelude.{IsOk, ◌↔◌, string_bytes};
 ghost use Rattle.vectors.specs.Replies.{Meets};
 
-use crate::bench::Bench;
-use crate::call::{Call, Part};
+use crate::bench::LoggedBench;
+use crate::call::Request;
 use crate::step::{Reply, Step, read_step};
 use crate::tally::Tally;
 use base::error::Error;
@@ -34,12 +34,6 @@ impl From<AllocError> for Fault {
     }
 }
 
-impl From<Error> for Fault {
-    fn from(error: Error) -> Fault {
-        Fault::BadChip(error)
-    }
-}
-
 /// The line, from 1, at which the replay ended, and why.
 #[derive(Drop)]
 pub struct Failure {
@@ -61,67 +55,77 @@ impl fmt::Display for Failure {
     }
 }
 
-// What a call replies: its answer and its accesses.
-fn make_call(heap: Global, bench: &mut Bench, part: Part, call: Call) -> Result<String, Fault> {
-    let Some(answer) = bench.ask(part, call) else {
-        return Err(Fault::NoPart);
-    };
-    let log = bench.log();
-    Ok(format!(in heap; "{answer} |{log}")?)
+// The block that the lines speak of, and what was counted so far.
+#[derive(Drop)]
+struct Replay {
+    heap: Global,
+    bench: LoggedBench,
+    tally: Tally,
 }
 
-// Holds our reply to the one that is wanted, and counts it.
-fn compare(tally: &mut Tally, ours: String, wanted: Reply<'_>) -> Result<(), Fault>
-    ensures { elim result [ Ok x ↦ Meets wanted.entry (string_bytes ours) | Err e ↦ (Meets wanted.entry (string_bytes ours) → ⊥) ] }
-{
-    match wanted {
-        Reply::Alike(theirs) => {
-            if ours.as_str() != theirs {
-                return Err(Fault::Differs(ours));
+impl Replay {
+    fn take_line(&mut self, line: &str) -> Result<(), Fault> {
+        match read_step(line).ok_or(Fault::Unreadable)? {
+            Step::NewBlock(chip) => {
+                let profile = Profile::new(chip).map_err(Fault::BadChip)?;
+                self.bench = LoggedBench::new(profile);
+                self.tally.count_block();
             }
-            tally.count_alike();
+            Step::SetWord(register, word) => self.bench.set(register.into(), word),
+            Step::MakeCall(request, wanted) => {
+                let ours = self.make_call(request)?;
+                self.compare(ours, wanted)?;
+            }
         }
-        Reply::Departs(departure, theirs, promised) => {
-            if ours.as_str() == theirs {
-                return Err(Fault::Agrees(ours));
-            }
-            if ours.as_str() != promised {
-                return Err(Fault::Differs(ours));
-            }
-            tally.count_departure(departure);
-        }
+        Ok(())
     }
-    Ok(())
-}
 
-fn take_line(heap: Global, bench: &mut Bench, tally: &mut Tally, line: &str) -> Result<(), Fault> {
-    let Some(step) = read_step(line) else {
-        return Err(Fault::Unreadable);
-    };
-    match step {
-        Step::NewBlock(chip) => {
-            *bench = Bench::new(Profile::new(chip)?);
-            tally.count_block();
-        }
-        Step::SetWord(register, word) => bench.set(register.place(), word),
-        Step::MakeCall(part, call, wanted) => {
-            let ours = make_call(heap, bench, part, call)?;
-            compare(tally, ours, wanted)?;
-        }
+    // What a call replies: its answer, or why it was refused, and its accesses.
+    fn make_call(&mut self, request: Request) -> Result<String, Fault> {
+        let answer = self.bench.ask(request).ok_or(Fault::NoPart)?;
+        let log = self.bench.log();
+        Ok(match answer {
+            Ok(answer) => format!(in self.heap; "{answer} |{log}")?,
+            Err(error) => format!(in self.heap; "err {error:?} |{log}")?,
+        })
     }
-    Ok(())
+
+    // Holds our reply to the one that is wanted, and counts it.
+    fn compare(&mut self, ours: String, wanted: Reply<'_>) -> Result<(), Fault>
+        ensures { IsOk result ↔ Meets wanted.entry (string_bytes ours) }
+    {
+        match wanted {
+            Reply::Alike(theirs) => {
+                if ours.as_str() != theirs {
+                    return Err(Fault::Differs(ours));
+                }
+                self.tally.count_alike();
+            }
+            Reply::Departs(departure, theirs, promised) => {
+                if ours.as_str() == theirs {
+                    return Err(Fault::Agrees(ours));
+                }
+                if ours.as_str() != promised {
+                    return Err(Fault::Differs(ours));
+                }
+                self.tally.count_departure(departure);
+            }
+        }
+        Ok(())
+    }
 }
 
 /// Replays the lines one after another, and counts. Before the first block of the lines stands the bench unit's.
-pub fn replay(heap: Global, text: &str) -> Result<Tally, Failure> {
-    let mut bench = Bench::new(Profile::bench());
-    let mut tally = Tally::new();
-    let mut line = 0_usize;
-    for step in text.lines() {
-        line = line.saturating_add(1);
-        if let Err(fault) = take_line(heap, &mut bench, &mut tally, step) {
-            return Err(Failure { line, fault });
-        }
+pub fn replay_lines(heap: Global, text: &str) -> Result<Tally, Failure> {
+    let mut replay = Replay {
+        heap,
+        bench: LoggedBench::new(Profile::bench()),
+        tally: Tally::default(),
+    };
+    for (line, step) in (1..).zip(text.lines()) {
+        replay
+            .take_line(step)
+            .map_err(|fault| Failure { line, fault })?;
     }
-    Ok(tally)
+    Ok(replay.tally)
 }

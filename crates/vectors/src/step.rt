@@ -1,11 +1,13 @@
 // The lines of the vectors.
-use crate::call::{Call, KindCall, OneShotCall, Part, PeriodicCall};
-use crate::fields::{flag, number, number32};
+use crate::call::{Call, KindCall, Request};
+use crate::fields::{flag, number};
 use crate::register::Register;
 use crate::tally::Departure;
 use base::chip::{Chip, Ratio, ResetWords};
-use std::str::Split;
+use base::numbers::{AlarmNumber, TimerNumber};
+use driver::call::Call as DriverCall;
 use time::Duration;
+use timer::part::Part;
 
 /// What a call is to reply.
 #[derive(Clone, Copy)]
@@ -23,7 +25,7 @@ pub enum Step<'a> {
     NewBlock(Chip),
     /// a change that the hardware makes
     SetWord(Register, u32),
-    MakeCall(Part, Call, Reply<'a>),
+    MakeCall(Request, Reply<'a>),
 }
 
 /// The step of a line, or none where the line has none of the forms.
@@ -39,120 +41,97 @@ pub fn read_step(line: &str) -> Option<Step<'_>> {
 
 fn read_set(text: &str) -> Option<Step<'_>> {
     let (index, word) = text.split_once(' ')?;
-    Some(Step::SetWord(Register::at(number(index)?)?, number32(word)?))
+    let index = number::<u64>(index)?;
+    Some(Step::SetWord(index.try_into().ok()?, number(word)?))
 }
 
 fn read_alike(line: &str) -> Option<Step<'_>> {
-    let (request, reply) = line.split_once(" -> ")?;
-    let (part, call) = read_request(request)?;
-    Some(Step::MakeCall(part, call, Reply::Alike(reply)))
+    let (request, theirs) = line.split_once(" -> ")?;
+    Some(Step::MakeCall(read_request(request)?, Reply::Alike(theirs)))
 }
 
 fn read_departure(text: &str) -> Option<Step<'_>> {
     let (name, line) = text.split_once(' ')?;
-    let departure = Departure::named(name)?;
+    let departure = name.parse().ok()?;
     let (request, replies) = line.split_once(" -> ")?;
     let (theirs, ours) = replies.split_once(" => ")?;
-    let (part, call) = read_request(request)?;
-    Some(Step::MakeCall(part, call, Reply::Departs(departure, theirs, ours)))
+    let wanted = Reply::Departs(departure, theirs, ours);
+    Some(Step::MakeCall(read_request(request)?, wanted))
 }
 
-fn read_request(text: &str) -> Option<(Part, Call)> {
-    let (name, operands) = text.split_once(' ')?;
-    match operands.split_once(' ') {
-        Some((part, operand)) => Some((read_part(part)?, read_call(name, operand)?)),
-        None => Some((read_part(operands)?, read_bare_call(name)?)),
-    }
+// A call's name, its part and its argument, if it has one.
+fn read_request(text: &str) -> Option<Request> {
+    let mut words = text.splitn(3, ' ');
+    let name = words.next()?;
+    Some(Request {
+        part: read_part(words.next()?)?,
+        call: read_call(name, words.next())?,
+    })
 }
 
 fn read_part(word: &str) -> Option<Part> {
     match word {
-        "t0" => Some(Part::Timer0),
-        "t1" => Some(Part::Timer1),
-        "a0" => Some(Part::Alarm0),
-        "a1" => Some(Part::Alarm1),
-        "a2" => Some(Part::Alarm2),
+        "t0" => Some(Part::Timer(TimerNumber::Zero)),
+        "t1" => Some(Part::Timer(TimerNumber::One)),
+        "a0" => Some(Part::Alarm(AlarmNumber::Zero)),
+        "a1" => Some(Part::Alarm(AlarmNumber::One)),
+        "a2" => Some(Part::Alarm(AlarmNumber::Two)),
         _ => None,
     }
 }
 
 fn micros(word: &str) -> Option<Duration> {
-    Some(Duration::from_micros(number(word)?))
+    number(word).map(Duration::from_micros)
 }
 
-fn read_call(name: &str, operand: &str) -> Option<Call> {
-    let call = match name {
-        "schedule" => Call::OneShot(OneShotCall::Schedule(micros(operand)?)),
-        "delay_nanos" => Call::OneShot(OneShotCall::DelayNanos(number32(operand)?)),
-        "driver_listen" => Call::OneShot(OneShotCall::Listen(flag(operand)?)),
-        "start" => Call::Periodic(PeriodicCall::Start(micros(operand)?)),
-        "load_value" => Call::Kind(KindCall::LoadValue(micros(operand)?)),
-        "enable_auto_reload" => Call::Kind(KindCall::EnableAutoReload(flag(operand)?)),
-        "listen" => Call::Kind(KindCall::Listen(flag(operand)?)),
+fn read_call(name: &str, argument: Option<&str>) -> Option<Call> {
+    let call = match (name, argument) {
+        ("schedule", Some(word)) => Call::Driver(DriverCall::Schedule(micros(word)?)),
+        ("delay_nanos", Some(word)) => Call::Driver(DriverCall::DelayNanos(number(word)?)),
+        ("stop", None) => Call::Driver(DriverCall::Stop),
+        ("driver_listen", Some(word)) => Call::Driver(DriverCall::Listen(flag(word)?)),
+        ("start", Some(word)) => Call::Driver(DriverCall::Start(micros(word)?)),
+        ("wait", None) => Call::Driver(DriverCall::Wait),
+        ("cancel", None) => Call::Driver(DriverCall::Cancel),
+        ("kind_start", None) => Call::Kind(KindCall::Start),
+        ("kind_stop", None) => Call::Kind(KindCall::Stop),
+        ("reset", None) => Call::Kind(KindCall::Reset),
+        ("is_running", None) => Call::Kind(KindCall::IsRunning),
+        ("now", None) => Call::Kind(KindCall::Now),
+        ("load_value", Some(word)) => Call::Kind(KindCall::LoadValue(micros(word)?)),
+        ("enable_auto_reload", Some(word)) => Call::Kind(KindCall::EnableAutoReload(flag(word)?)),
+        ("listen", Some(word)) => Call::Kind(KindCall::Listen(flag(word)?)),
+        ("clear_interrupt", None) => Call::Kind(KindCall::ClearInterrupt),
+        ("is_interrupt_set", None) => Call::Kind(KindCall::IsInterruptSet),
         _ => return None,
     };
     Some(call)
 }
 
-fn read_bare_call(name: &str) -> Option<Call> {
-    match name {
-        "stop" => Some(Call::OneShot(OneShotCall::Stop)),
-        "wait" => Some(Call::Periodic(PeriodicCall::Wait)),
-        "cancel" => Some(Call::Periodic(PeriodicCall::Cancel)),
-        "kind_start" => Some(Call::Kind(KindCall::Start)),
-        "kind_stop" => Some(Call::Kind(KindCall::Stop)),
-        "reset" => Some(Call::Kind(KindCall::Reset)),
-        "is_running" => Some(Call::Kind(KindCall::IsRunning)),
-        "now" => Some(Call::Kind(KindCall::Now)),
-        "clear_interrupt" => Some(Call::Kind(KindCall::ClearInterrupt)),
-        "is_interrupt_set" => Some(Call::Kind(KindCall::IsInterruptSet)),
-        _ => None,
-    }
-}
-
-fn next_flag(words: &mut Split<'_, char>) -> Option<bool> {
-    flag(words.next()?)
-}
-
-fn next_number(words: &mut Split<'_, char>) -> Option<u32> {
-    number32(words.next()?)
-}
-
-fn next_ratio(words: &mut Split<'_, char>) -> Option<Ratio> {
-    match words.next()? {
+fn read_ratio(word: &str) -> Option<Ratio> {
+    match word {
         "4/10" => Some(Ratio::FourTenths),
         "1/2" => Some(Ratio::Half),
         _ => None,
     }
 }
 
-fn read_reset(words: &mut Split<'_, char>) -> Option<ResetWords> {
-    Some(ResetWords {
-        config: next_number(words)?,
-        wdtconfig0: next_number(words)?,
-        wdtconfig1: next_number(words)?,
-        conf: next_number(words)?,
-    })
-}
-
+// The figures in the order of the line.
 fn read_chip(text: &str) -> Option<Chip> {
     let mut words = text.split(' ');
-    let level = next_flag(&mut words)?;
-    let confirm = next_flag(&mut words)?;
-    let divcnt = next_flag(&mut words)?;
-    let ratio = next_ratio(&mut words)?;
-    let clock = next_number(&mut words)?;
-    let crystal = next_number(&mut words)?;
-    let timers = u8::try_from(next_number(&mut words)?).ok()?;
-    let reset = read_reset(&mut words)?;
     Some(Chip {
-        clock,
-        crystal,
-        ratio,
-        timers,
-        level,
-        confirm,
-        divcnt,
-        reset,
+        level: flag(words.next()?)?,
+        confirm: flag(words.next()?)?,
+        divcnt: flag(words.next()?)?,
+        ratio: read_ratio(words.next()?)?,
+        clock: number(words.next()?)?,
+        crystal: number(words.next()?)?,
+        timers: number(words.next()?)?,
+        reset: ResetWords {
+            config: number(words.next()?)?,
+            wdtconfig0: number(words.next()?)?,
+            wdtconfig1: number(words.next()?)?,
+            conf: number(words.next()?)?,
+        },
     })
 }

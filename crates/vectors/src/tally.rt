@@ -1,20 +1,21 @@
 // What the replay counts.
-ghost use Rattle.std.specs.Prelude.{◌≡◌, ◌<◌};
-ghost use Rattle.vectors.specs.Tallies.{departure_number, with_block, with_alike, with_departure};
+ghost use Rattle.std.specs.Prelude.{◌≡◌};
+ghost use Rattle.vectors.specs.Tallies.{with_block, with_alike, with_departure};
 
 use std::fmt;
+use std::str::FromStr;
 
 /// Where the port departs from the crate on purpose.
 #[derive(Clone, Copy)]
 pub enum Departure {
     /// A product past 64 bits is refused; the crate panics.
-    OverflowRefused,
+    OverflowRefused = 0,
     /// A delay that runs keeps its alarm at a clear; the crate switches it off.
-    RunningDelayStaysArmed,
+    RunningDelayStaysArmed = 1,
     /// A count that can't be read is refused; the crate looks on for ever.
-    UnreadableCountRefused,
+    UnreadableCountRefused = 2,
     /// A wait looks once and refuses; the crate looks on for ever.
-    WaitLooksOnce,
+    WaitLooksOnce = 3,
 }
 
 impl Departure {
@@ -35,32 +36,25 @@ impl Departure {
             Departure::WaitLooksOnce => "wait-looks-once",
         }
     }
+}
 
-    /// The departure of this name.
-    pub fn named(name: &str) -> Option<Departure> {
-        for departure in Departure::ALL {
-            if departure.name() == name {
-                return Some(departure);
-            }
-        }
-        None
-    }
+/// No departure has the name.
+#[derive(Clone, Copy)]
+pub struct NoDeparture;
 
-    fn index(self) -> usize
-        ensures value { result ≡ departure_number self }
-        ensures bound { result < 4 }
-    {
-        match self {
-            Departure::OverflowRefused => 0,
-            Departure::RunningDelayStaysArmed => 1,
-            Departure::UnreadableCountRefused => 2,
-            Departure::WaitLooksOnce => 3,
-        }
+impl FromStr for Departure {
+    type Err = NoDeparture;
+
+    fn from_str(name: &str) -> Result<Departure, NoDeparture> {
+        Departure::ALL
+            .into_iter()
+            .find(|departure| departure.name() == name)
+            .ok_or(NoDeparture)
     }
 }
 
 /// The number of blocks, of calls that were alike, and of those that departed, by departure.
-#[derive(Drop)]
+#[derive(Default, Drop)]
 pub struct Tally {
     blocks: u64,
     alike: u64,
@@ -68,15 +62,6 @@ pub struct Tally {
 }
 
 impl Tally {
-    /// Nothing is counted yet.
-    pub fn new() -> Tally {
-        Tally {
-            blocks: 0,
-            alike: 0,
-            departed: [0; 4],
-        }
-    }
-
     /// Counts a block.
     pub fn count_block(&mut self)
         ensures { self.new ≡ with_block self.old }
@@ -95,30 +80,29 @@ impl Tally {
     pub fn count_departure(&mut self, departure: Departure)
         ensures { self.new ≡ with_departure departure self.old }
     {
-        let index = departure.index();
-        self.departed[index] = self.departed[index].saturating_add(1);
+        let departed = &mut self.departed[departure as usize];
+        *departed = departed.saturating_add(1);
     }
 
     // Every call, alike or not.
     fn calls(&self) -> u64 {
-        let mut calls = self.alike;
-        for departed in self.departed {
-            calls = calls.saturating_add(departed);
-        }
-        calls
+        self.departed
+            .into_iter()
+            .fold(self.alike, u64::saturating_add)
     }
 }
 
 impl fmt::Display for Tally {
     fn fmt<W: fmt::Write>(&self, f: &mut fmt::Formatter<W>) -> fmt::Result {
-        for departure in Departure::ALL {
-            let name = departure.name();
-            let departed = self.departed[departure.index()];
-            writeln!(f, "departs {name} {departed}")?;
+        for (departure, departed) in Departure::ALL.into_iter().zip(self.departed) {
+            writeln!(f, "departs {} {departed}", departure.name())?;
         }
-        let alike = self.alike;
-        let calls = self.calls();
-        let blocks = self.blocks;
-        write!(f, "alike {alike}\ncalls {calls}\nblocks {blocks}")
+        write!(
+            f,
+            "alike {}\ncalls {}\nblocks {}",
+            self.alike,
+            self.calls(),
+            self.blocks
+        )
     }
 }
