@@ -113,8 +113,8 @@ impl From<Register> for Place {
     fn from(register: Register) -> Place {
         match register {
             Register::OfTimer(number, register) => Place::timer(number, register),
-            Register::OfGroup(register) => Place::group(register),
-            Register::OfSystem(register) => Place::system(register),
+            Register::OfGroup(register) => Place::from(register),
+            Register::OfSystem(register) => Place::from(register),
             Register::OfAlarm(number, register) => Place::alarm(number, register),
         }
     }
