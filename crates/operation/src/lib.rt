@@ -4,18 +4,23 @@
 ghost use Rattle.std.specs.Prelude.{◌≡◌, [], ◌∷◌, slice_index};
 ghost use Rattle.operation.specs.Operations.{Read, Write, Modify, switched, Performed};
 
+pub mod words;
+
 use block::access::Block;
 use block::place::Place;
 
 /// One get: the word at the place.
+#[tactic(auto, using(crate::proofs::Joined::performed_read, crate::proofs::Joined::get_keeps))]
 pub fn read<B: Block>(block: &mut B, at: Place) -> u32
     ensures did { Performed B.Block.model block.old (Read at.index ∷ []) block.new }
     ensures word { result ≡ slice_index (B.Block.model.means block.old).words at.index }
+    ensures same { B.Block.model.means block.new ≡ B.Block.model.means block.old }
 {
     block.get(at)
 }
 
 /// One put of the word.
+#[tactic(auto, using(crate::proofs::Joined::performed_write))]
 pub fn write<B: Block>(block: &mut B, at: Place, word: u32)
     ensures { Performed B.Block.model block.old (Write at.index word ∷ []) block.new }
 {
@@ -23,6 +28,7 @@ pub fn write<B: Block>(block: &mut B, at: Place, word: u32)
 }
 
 /// One get, then one put of the same word with the bits of `keep` kept and those of `on` set.
+#[tactic(auto, using(crate::proofs::Joined::performed_modify))]
 pub fn modify<B: Block>(block: &mut B, at: Place, keep: u32, on: u32)
     ensures { Performed B.Block.model block.old (Modify at.index keep on ∷ []) block.new }
 {

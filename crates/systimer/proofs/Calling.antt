@@ -1,5 +1,5 @@
 -- A call of an alarm, from the operations that it performed.
-use Rattle.std.proofs.Common.{◌≡◌, List}
+use Rattle.std.proofs.Common.{◌≡◌, List, refl}
 use Rattle.block.specs.Model.{Model}
 use Rattle.operation.specs.Operations.{Op, Performed}
 use Rattle.operation.proofs.Joined.{performed_as}
@@ -11,6 +11,11 @@ use Rattle.systimer.specs.Views.{found}
 use Rattle.systimer.specs.AlarmKind.{alarm_kind, number, kept}
 use Rattle.systimer.specs.declared.alarm.Alarm.{Alarm}
 
-pub alarm_call : {S : Type 0} (b : Model S) {h g : Alarm} {s t : S} {os : List Op} (a : Ask)
-    → Performed b s os t → os ≡ alarm_ops (number h) (found (number h) (b.means s)) a → g ≡ kept h (b.means s) a → Called alarm_kind b h s a g t
-alarm_call b a p e same = called alarm_kind b a (performed_as b e p).did same
+module _ {S : Type 0} {b : Model S} {h : Alarm} {s t : S} {os : List Op} {a : Ask} where
+  -- a call that leaves this handle
+  pub alarm_leaves : {g : Alarm} → Performed b s os t → g ≡ kept h (b.means s) a → os ≡ alarm_ops (number h) (found (number h) (b.means s)) a → Called alarm_kind b h s a g t
+  alarm_leaves {g} p same e = called alarm_kind b a (performed_as p e).did same
+
+  -- a call that leaves the handle which it ought to
+  pub alarm_call : Performed b s os t → os ≡ alarm_ops (number h) (found (number h) (b.means s)) a → Called alarm_kind b h s a (kept h (b.means s) a) t
+  alarm_call p e = alarm_leaves p refl e

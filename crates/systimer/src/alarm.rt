@@ -1,8 +1,10 @@
 // The kind of the alarms.
-ghost use Rattle.std.specs.Prelude.{◌≡◌, ◌^◌, ◌<◌};
+ghost use Rattle.std.specs.Prelude.{◌≡◌, ◌-◌, ◌^◌, ◌<◌, [], ◌∷◌};
 ghost use Rattle.time.specs.Counts.{micros};
-ghost use Rattle.block.specs.Places.{alarm_place};
-ghost use Rattle.operation.specs.Operations.{Performed};
+ghost use Rattle.base.specs.Numbers.{alarm_number};
+ghost use Rattle.block.specs.Places.{alarm_place, system_place};
+ghost use Rattle.base.specs.declared.registers.SystemRegister.TheVariants.{Conf};
+ghost use Rattle.operation.specs.Operations.{Performed, switched};
 ghost use Rattle.systimer.specs.Rates.{ticks_at};
 ghost use Rattle.systimer.specs.Views.{can_read, read_of, instant_at};
 ghost use Rattle.systimer.specs.AlarmKind.{alarm_kind, number};
@@ -10,11 +12,11 @@ ghost use Rattle.systimer.specs.Steps.{run_bit, own_bit, count_ops, period_ops, 
 
 use base::bits::is_set;
 use base::error::Error;
-use base::numbers::AlarmNumber;
 use base::registers::{AlarmRegister, GroupRegister, SystemRegister};
 use block::access::Block;
 use block::parts::AlarmHandle;
 use block::place::Place;
+use operation::words::TwoWords;
 use operation::{modify, read, switch, write};
 use time::{Duration, Instant};
 use timer::interface::Timer;
@@ -22,10 +24,13 @@ use timer::interface::Timer;
 // The period in TARGET_CONF, and the bit that selects it.
 const PERIOD: u32 = 0x3FF_FFFF;
 
-const PERIOD_MODE: u32 = 0x4000_0000;
+const PERIOD_MODE: u8 = 30;
 
 // The bit of CONF by which the system count stands while core 0 does.
-const STALL: u32 = 0x1000_0000;
+const STALL: u8 = 28;
+
+// The bit of VALID by which the system count can be read.
+const COUNT_VALID: u8 = 2;
 
 // The system count has 52 bits.
 const COUNT_MODULUS: u64 = 0x10_0000_0000_0000;
@@ -50,8 +55,7 @@ impl Alarm {
     pub fn origin(&self) -> u64
         ensures { result ≡ self.now.origin }
     {
-        let Alarm { origin, .. } = self;
-        *origin
+        self.origin
     }
 
     fn place(&self, register: AlarmRegister) -> Place
@@ -64,22 +68,22 @@ impl Alarm {
     fn bit(&self) -> u32
         ensures { result ≡ own_bit (number self.now) }
     {
-        match self.handle.number() {
-            AlarmNumber::Zero => 1,
-            AlarmNumber::One => 2,
-            AlarmNumber::Two => 4,
-        }
+        1 << self.handle.number().index()
     }
 
-    // The bit of CONF that the alarm runs by.
-    fn run_bit(&self) -> u32
-        ensures { result ≡ run_bit (number self.now) }
+    // Which bit of CONF the alarm runs by.
+    fn run_index(&self) -> u8
+        ensures { result ≡ 24 - alarm_number (number self.now) }
     {
-        match self.handle.number() {
-            AlarmNumber::Zero => 0x100_0000,
-            AlarmNumber::One => 0x80_0000,
-            AlarmNumber::Two => 0x40_0000,
-        }
+        24 - self.handle.number().index()
+    }
+
+    // Whether the alarm runs.
+    fn run<B: Block>(&self, block: &mut B, on: bool)
+        ensures { Performed B.Block.model block.old (switched (system_place Conf) (run_bit (number self.now)) on ∷ []) block.new }
+    {
+        let bit = 1 << self.run_index();
+        switch(block, Place::system(SystemRegister::Conf), bit, on);
     }
 
     fn set_period<B: Block>(&self, block: &mut B, period: u32)
@@ -89,24 +93,16 @@ impl Alarm {
         modify(block, conf, !PERIOD, period);
         write(block, self.place(AlarmRegister::CompLoad), 1);
         // The period counts from the time the mode is entered.
-        switch(block, conf, PERIOD_MODE, false);
-        switch(block, conf, PERIOD_MODE, true);
+        switch(block, conf, 1 << PERIOD_MODE, false);
+        switch(block, conf, 1 << PERIOD_MODE, true);
     }
 
     fn set_target<B: Block>(&self, block: &mut B, target: u64)
-        requires { target < 2 ^ 52 }
         ensures { Performed B.Block.model block.old (target_ops (number self.now) target) block.new }
     {
-        write(
-            block,
-            self.place(AlarmRegister::TargetHi),
-            (target / 0x1_0000_0000) as u32,
-        );
-        write(
-            block,
-            self.place(AlarmRegister::TargetLo),
-            (target % 0x1_0000_0000) as u32,
-        );
+        let TwoWords { high, low } = TwoWords::from(target);
+        write(block, self.place(AlarmRegister::TargetHi), high);
+        write(block, self.place(AlarmRegister::TargetLo), low);
         write(block, self.place(AlarmRegister::CompLoad), 1);
     }
 }
@@ -121,7 +117,7 @@ pub fn timeout_to_ticks(timeout: Duration, ticks_per_micro: u64, repeat: bool) -
         COUNT_MODULUS
     };
     let ticks = timeout.as_micros().checked_mul(ticks_per_micro)?;
-    if ticks < limit { Some(ticks) } else { None }
+    (ticks < limit).then_some(ticks)
 }
 
 // The time of a count; `ticks_per_micro` is 0 for no chip within the limits of a profile.
@@ -132,12 +128,13 @@ fn count_to_instant(count: u64, ticks_per_micro: u64) -> Instant
 }
 
 // The system count. A second look at its low word must find the same, or it moved on between the looks.
+#[tactic(auto, using(operation::proofs::Joined::ignored))]
 fn read_count<B: Block>(block: &mut B) -> Result<u64, Error>
     ensures did { Performed B.Block.model block.old (count_ops (can_read (B.Block.model.means block.old))) block.new }
     ensures answer { result ≡ read_of (B.Block.model.means block.old) }
 {
     write(block, Place::system(SystemRegister::Unit0Op), 0x4000_0000);
-    if !is_set(read(block, Place::group(GroupRegister::Valid)), 2) {
+    if !is_set(read(block, Place::group(GroupRegister::Valid)), COUNT_VALID) {
         return Err(Error::Unfinished);
     }
     let low = read(block, Place::system(SystemRegister::Unit0Lo));
@@ -146,7 +143,7 @@ fn read_count<B: Block>(block: &mut B) -> Result<u64, Error>
     if again != low {
         return Err(Error::Unfinished);
     }
-    Ok(u64::from(high) * 0x1_0000_0000 + u64::from(low))
+    Ok(u64::from(TwoWords { high, low }))
 }
 
 /// The count so many ticks on; it runs modulo 2^52.
@@ -154,49 +151,44 @@ pub fn target_after(count: u64, ticks: u64) -> u64
     ensures value { result ≡ count_after count ticks }
     ensures fits { result < 2 ^ 52 }
 {
-    (count % COUNT_MODULUS + ticks % COUNT_MODULUS) % COUNT_MODULUS
+    count.wrapping_add(ticks) % COUNT_MODULUS
 }
 
 impl Timer for Alarm {
     ghost kind = { alarm_kind };
 
     fn start<B: Block>(&mut self, block: &mut B) {
-        switch(
-            block,
-            Place::system(SystemRegister::Conf),
-            self.run_bit(),
-            true,
-        );
+        self.run(block, true);
     }
 
     fn stop<B: Block>(&mut self, block: &mut B) {
+        self.run(block, false);
+    }
+
+    fn reset<B: Block>(&mut self, block: &mut B) {
         switch(
             block,
             Place::system(SystemRegister::Conf),
-            self.run_bit(),
+            1 << STALL,
             false,
         );
     }
 
-    fn reset<B: Block>(&mut self, block: &mut B) {
-        switch(block, Place::system(SystemRegister::Conf), STALL, false);
-    }
-
     fn is_running<B: Block>(&mut self, block: &mut B) -> bool {
         let conf = read(block, Place::system(SystemRegister::Conf));
-        is_set(conf, 24 - self.handle.number().index())
+        is_set(conf, self.run_index())
     }
 
     fn now<B: Block>(&mut self, block: &mut B) -> Result<Instant, Error> {
-        let ticks_per_micro = (*block).chip().system_mhz();
+        let ticks_per_micro = block.chip().system_mhz();
         let count = read_count(block)?;
         Ok(count_to_instant(count, ticks_per_micro))
     }
 
     fn load_value<B: Block>(&mut self, block: &mut B, value: Duration) -> Result<(), Error> {
-        let ticks_per_micro = (*block).chip().system_mhz();
+        let ticks_per_micro = block.chip().system_mhz();
         let conf = read(block, self.place(AlarmRegister::TargetConf));
-        let repeat = is_set(conf, 30);
+        let repeat = is_set(conf, PERIOD_MODE);
         let Some(ticks) = timeout_to_ticks(value, ticks_per_micro, repeat) else {
             return Err(Error::InvalidTimeout);
         };
@@ -211,21 +203,13 @@ impl Timer for Alarm {
     }
 
     fn enable_auto_reload<B: Block>(&mut self, block: &mut B, auto_reload: bool) {
-        switch(
-            block,
-            self.place(AlarmRegister::TargetConf),
-            PERIOD_MODE,
-            auto_reload,
-        );
+        let conf = self.place(AlarmRegister::TargetConf);
+        switch(block, conf, 1 << PERIOD_MODE, auto_reload);
     }
 
     fn enable_interrupt<B: Block>(&mut self, block: &mut B, state: bool) {
-        switch(
-            block,
-            Place::system(SystemRegister::IntEna),
-            self.bit(),
-            state,
-        );
+        let at = Place::system(SystemRegister::IntEna);
+        switch(block, at, self.bit(), state);
     }
 
     fn clear_interrupt<B: Block>(&mut self, block: &mut B) {

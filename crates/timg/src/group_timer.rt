@@ -1,35 +1,36 @@
 // The kind of the group timers.
-ghost use Rattle.std.specs.Prelude.{◌≡◌, ◌/◌, ◌^◌, ◌≤◌};
+ghost use Rattle.std.specs.Prelude.{◌≡◌, ◌/◌, ◌^◌, ◌≤◌, [], ◌∷◌};
 ghost use Rattle.time.specs.Counts.{micros};
 ghost use Rattle.base.specs.Bits.{field};
 ghost use Rattle.base.specs.Numbers.{timer_number};
 ghost use Rattle.block.specs.Places.{timer_place};
 ghost use Rattle.timg.specs.Rates.{divisor, ticks_at, time_at};
 ghost use Rattle.timg.specs.Steps.{reset_ops, stays_armed};
-ghost use Rattle.operation.specs.Operations.{Performed};
+ghost use Rattle.base.specs.declared.registers.TimerRegister.TheVariants.{Update};
+ghost use Rattle.operation.specs.Operations.{Performed, Write};
 ghost use Rattle.timg.specs.GroupKind.{group_kind, number};
 
 use base::bits::is_set;
 use base::error::Error;
-use base::numbers::TimerNumber;
 use base::registers::{GroupRegister, TimerRegister};
 use block::access::Block;
 use block::parts::TimerHandle;
 use block::place::Place;
+use operation::words::TwoWords;
 use operation::{read, switch, write};
 use time::{Duration, Instant};
 use timer::interface::Timer;
 
 // The bits of CONFIG.
-const EN: u32 = 0x8000_0000;
+const EN: u8 = 31;
 
-const INCREASE: u32 = 0x4000_0000;
+const INCREASE: u8 = 30;
 
-const AUTORELOAD: u32 = 0x2000_0000;
+const AUTORELOAD: u8 = 29;
 
-const LEVEL_INT_EN: u32 = 0x800;
+const LEVEL_INT_EN: u8 = 11;
 
-const ALARM_EN: u32 = 0x400;
+const ALARM_EN: u8 = 10;
 
 /// A group timer, by its handle.
 #[derive(Drop)]
@@ -54,10 +55,25 @@ impl GroupTimer {
     fn bit(&self) -> u32
         ensures { result ≡ 2 ^ timer_number (number self.now) }
     {
-        match self.handle.number() {
-            TimerNumber::Zero => 1,
-            TimerNumber::One => 2,
-        }
+        1 << self.handle.number().index()
+    }
+
+    // Latches the count; no word is stored at UPDATE.
+    #[tactic(auto, using(operation::proofs::Joined::ignored))]
+    fn latch<B: Block>(&self, block: &mut B)
+        ensures did { Performed B.Block.model block.old (Write (timer_place (number self.now) Update) 0x80000000 ∷ []) block.new }
+        ensures same { B.Block.model.means block.new ≡ B.Block.model.means block.old }
+    {
+        write(block, self.place(TimerRegister::Update), 0x8000_0000);
+    }
+
+    // Loads the count with 0.
+    fn reset_counter<B: Block>(&self, block: &mut B)
+        ensures { Performed B.Block.model block.old (reset_ops (number self.now)) block.new }
+    {
+        write(block, self.place(TimerRegister::LoadLo), 0);
+        write(block, self.place(TimerRegister::LoadHi), 0);
+        write(block, self.place(TimerRegister::Load), 1);
     }
 }
 
@@ -89,9 +105,7 @@ fn ticks_to_instant(ticks: u64, rate: u32) -> Result<Instant, Error>
     let period = 1_000_000_000_000_u64
         .checked_div(u64::from(rate))
         .unwrap_or(0);
-    let Some(product) = ticks.checked_mul(period) else {
-        return Err(Error::OutOfRange);
-    };
+    let product = ticks.checked_mul(period).ok_or(Error::OutOfRange)?;
     Ok(Instant::from_micros(product / 1_000_000))
 }
 
@@ -99,16 +113,7 @@ fn ticks_to_instant(ticks: u64, rate: u32) -> Result<Instant, Error>
 fn stays_armed(config: u32) -> bool
     ensures { result ≡ stays_armed config }
 {
-    is_set(config, 29) || (is_set(config, 31) && is_set(config, 10))
-}
-
-// Loads the count with 0.
-fn reset_counter<B: Block>(timer: &GroupTimer, block: &mut B)
-    ensures { Performed B.Block.model block.old (reset_ops (number timer.now)) block.new }
-{
-    write(block, timer.place(TimerRegister::LoadLo), 0);
-    write(block, timer.place(TimerRegister::LoadHi), 0);
-    write(block, timer.place(TimerRegister::Load), 1);
+    is_set(config, AUTORELOAD) || (is_set(config, EN) && is_set(config, ALARM_EN))
 }
 
 impl Timer for GroupTimer {
@@ -116,29 +121,29 @@ impl Timer for GroupTimer {
 
     fn start<B: Block>(&mut self, block: &mut B) {
         let config = self.place(TimerRegister::Config);
-        switch(block, config, EN, false);
-        switch(block, config, ALARM_EN, false);
-        reset_counter(self, block);
-        switch(block, config, INCREASE, true);
-        switch(block, config, EN, true);
-        switch(block, config, ALARM_EN, true);
+        switch(block, config, 1 << EN, false);
+        switch(block, config, 1 << ALARM_EN, false);
+        self.reset_counter(block);
+        switch(block, config, 1 << INCREASE, true);
+        switch(block, config, 1 << EN, true);
+        switch(block, config, 1 << ALARM_EN, true);
     }
 
     fn stop<B: Block>(&mut self, block: &mut B) {
-        switch(block, self.place(TimerRegister::Config), EN, false);
+        switch(block, self.place(TimerRegister::Config), 1 << EN, false);
     }
 
     fn reset<B: Block>(&mut self, block: &mut B) {
-        reset_counter(self, block);
+        self.reset_counter(block);
     }
 
     fn is_running<B: Block>(&mut self, block: &mut B) -> bool {
-        is_set(read(block, self.place(TimerRegister::Config)), 31)
+        is_set(read(block, self.place(TimerRegister::Config)), EN)
     }
 
     fn now<B: Block>(&mut self, block: &mut B) -> Result<Instant, Error> {
-        let clock = (*block).chip().clock;
-        write(block, self.place(TimerRegister::Update), 0x8000_0000);
+        let clock = block.chip().clock;
+        self.latch(block);
         let valid = read(block, Place::group(GroupRegister::Valid));
         if !is_set(valid, self.handle.number().index()) {
             return Err(Error::Unfinished);
@@ -146,71 +151,45 @@ impl Timer for GroupTimer {
         let low = read(block, self.place(TimerRegister::Lo));
         let high = read(block, self.place(TimerRegister::Hi));
         let config = read(block, self.place(TimerRegister::Config));
-        let ticks = u64::from(high) * 0x1_0000_0000 + u64::from(low);
+        let ticks = u64::from(TwoWords { high, low });
         ticks_to_instant(ticks, clock / divider(config))
     }
 
     fn load_value<B: Block>(&mut self, block: &mut B, value: Duration) -> Result<(), Error> {
-        let clock = (*block).chip().clock;
+        let clock = block.chip().clock;
         let config = read(block, self.place(TimerRegister::Config));
         let Some(ticks) = timeout_to_ticks(value, clock, config) else {
             return Err(Error::InvalidTimeout);
         };
-        write(
-            block,
-            self.place(TimerRegister::AlarmLo),
-            (ticks % 0x1_0000_0000) as u32,
-        );
-        write(
-            block,
-            self.place(TimerRegister::AlarmHi),
-            (ticks / 0x1_0000_0000) as u32,
-        );
+        let TwoWords { high, low } = TwoWords::from(ticks);
+        write(block, self.place(TimerRegister::AlarmLo), low);
+        write(block, self.place(TimerRegister::AlarmHi), high);
         Ok(())
     }
 
     fn enable_auto_reload<B: Block>(&mut self, block: &mut B, auto_reload: bool) {
-        switch(
-            block,
-            self.place(TimerRegister::Config),
-            AUTORELOAD,
-            auto_reload,
-        );
+        let config = self.place(TimerRegister::Config);
+        switch(block, config, 1 << AUTORELOAD, auto_reload);
     }
 
     fn enable_interrupt<B: Block>(&mut self, block: &mut B, state: bool) {
-        if (*block).chip().level {
-            switch(
-                block,
-                self.place(TimerRegister::Config),
-                LEVEL_INT_EN,
-                state,
-            );
+        let (at, bit) = if block.chip().level {
+            (self.place(TimerRegister::Config), 1 << LEVEL_INT_EN)
         } else {
-            switch(
-                block,
-                Place::group(GroupRegister::IntEna),
-                self.bit(),
-                state,
-            );
-        }
+            (Place::group(GroupRegister::IntEna), self.bit())
+        };
+        switch(block, at, bit, state);
     }
 
     fn clear_interrupt<B: Block>(&mut self, block: &mut B) {
         write(block, Place::group(GroupRegister::IntClr), self.bit());
-        let config = read(block, self.place(TimerRegister::Config));
-        switch(
-            block,
-            self.place(TimerRegister::Config),
-            ALARM_EN,
-            stays_armed(config),
-        );
+        let config = self.place(TimerRegister::Config);
+        let armed = stays_armed(read(block, config));
+        switch(block, config, 1 << ALARM_EN, armed);
     }
 
     fn is_interrupt_set<B: Block>(&mut self, block: &mut B) -> bool {
-        is_set(
-            read(block, Place::group(GroupRegister::IntRaw)),
-            self.handle.number().index(),
-        )
+        let raw = read(block, Place::group(GroupRegister::IntRaw));
+        is_set(raw, self.handle.number().index())
     }
 }

@@ -1,7 +1,5 @@
-use Rattle.std.proofs.Common.{refl}
-use Rattle.timer.specs.Kinds.{Start}
 use Rattle.systimer.proofs.Calling.{alarm_call}
 use Rattle.systimer.proofs.alarm.AlarmTimer.start.Goals as goal
 
 pub returns : goal.returns
-returns g c = alarm_call g.B.Block.model Start c.switch.ensures (rw (c.system.ensures, c.run_bit.ensures)) refl
+returns g c = alarm_call c.run.ensures cc

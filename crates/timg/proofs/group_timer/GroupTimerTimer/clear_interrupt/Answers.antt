@@ -1,14 +1,16 @@
-use Rattle.std.proofs.Common.{refl}
-use Rattle.operation.proofs.Joined.{performed_then}
-use Rattle.timer.specs.Kinds.{Clear}
+use Rattle.std.proofs.Common.{◌≡◌, get_or, arith}
+use Rattle.std.proofs.lemmas.Grind.{common_steps}
+use Rattle.block.specs.Places.{timer_place}
+use Rattle.block.specs.declared.words.PutRule.TheVariants.{ClearsGroup}
+use Rattle.base.specs.declared.registers.TimerRegister.TheVariants.{Config}
+use Rattle.operation.proofs.Joined.{◌>>◌, put_by}
 use Rattle.timg.specs.GroupKind.{number}
 use Rattle.timg.proofs.Calling.{group_call}
-use Rattle.timg.proofs.Found.{config_cleared}
 use Rattle.timg.proofs.group_timer.GroupTimerTimer.clear_interrupt.Goals as goal
 
 pub returns : goal.returns
 returns g c =
-    let b = g.B.Block.model in
-    let done = performed_then b c.write.ensures (performed_then b c.read-config.ensures.did c.switch.ensures) in
-    let config = config_cleared b (number c.args.self.now) c.group.ensures c.write.ensures in
-    group_call b Clear done (rw (c.stays_armed.ensures, c.read-config.ensures.word, c.place.ensures, c.place-2.ensures, c.group.ensures, c.bit.ensures, config)) refl
+    let at = timer_place (number c.args.self.now) Config in
+    let config : get_or (g.B.Block.model.means c.write.new.block).words at 0 ≡ get_or (g.B.Block.model.means c.args.block.now).words at 0 =
+    rw (put_by ClearsGroup (rw c.group.ensures) c.write.ensures) (grind (arith, common_steps)) in
+    group_call (c.write.ensures >> c.read.ensures.did >> c.switch.ensures) cc
