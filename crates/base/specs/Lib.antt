@@ -1,4 +1,5 @@
 pub mod Bits
+pub mod TwoWords
 pub mod Numbers
 pub mod Chips
 pub mod Refusals

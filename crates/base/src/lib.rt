@@ -8,3 +8,4 @@ pub mod numbers;
 pub mod profile;
 pub mod rates;
 pub mod registers;
+pub mod two_words;

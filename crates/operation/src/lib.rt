@@ -4,8 +4,6 @@
 ghost use Rattle.std.specs.Prelude.{◌≡◌, [], ◌∷◌, slice_index};
 ghost use Rattle.operation.specs.Operations.{Read, Write, Modify, switched, Performed};
 
-pub mod words;
-
 use block::access::Block;
 use block::place::Place;
 

@@ -14,6 +14,7 @@ use base::numbers::{AlarmNumber, TimerNumber};
 use base::registers::{
     AlarmRegister, GroupRegister, SystemRegister, TimerRegister, WatchdogRegister,
 };
+use base::two_words::TwoWords;
 use block::access::Block;
 use block::place::Place;
 use block::words::{Words, watchdog_word, word_at};
@@ -29,13 +30,6 @@ fn timing(run: bool, repeat: bool, due: u64) -> Timing
         (true, false) => Timing::Once(due),
         (true, true) => Timing::Again(due),
     }
-}
-
-// The number that two words hold.
-fn joined(high: u32, low: u32) -> u64
-    ensures { result ≡ high * 2 ^ 32 + low }
-{
-    u64::from(high) << 32 | u64::from(low)
 }
 
 // How far the system count runs from `origin` to `target`.
@@ -88,7 +82,7 @@ impl Readout<'_> {
     {
         let high = self.word(Place::timer(number, TimerRegister::AlarmHi));
         let low = self.word(Place::timer(number, TimerRegister::AlarmLo));
-        joined(high, low)
+        u64::from(TwoWords { high, low })
     }
 
     fn timer_listens(&self, number: TimerNumber) -> bool
@@ -126,7 +120,7 @@ impl Readout<'_> {
         } else {
             let high = self.word(Place::alarm(number, AlarmRegister::TargetHi));
             let low = self.word(Place::alarm(number, AlarmRegister::TargetLo));
-            count_between(origin, joined(high, low))
+            count_between(origin, u64::from(TwoWords { high, low }))
         }
     }
 

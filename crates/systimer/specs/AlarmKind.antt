@@ -22,7 +22,7 @@ use Rattle.systimer.specs.declared.alarm.Alarm.{Alarm}
 
 -- The number of the alarm that a handle is for.
 abbrev pub number : Alarm → AlarmNumber
-number h = h.handle.alarm
+number h = h.handle.number
 
 -- The words of the alarm after a call.
 abbrev pub left : AlarmNumber → Meaning → Ask → AlarmWords

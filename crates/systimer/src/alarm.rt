@@ -13,10 +13,10 @@ ghost use Rattle.systimer.specs.Steps.{run_bit, own_bit, count_ops, period_ops, 
 use base::bits::is_set;
 use base::error::Error;
 use base::registers::{AlarmRegister, GroupRegister, SystemRegister};
+use base::two_words::TwoWords;
 use block::access::Block;
 use block::parts::AlarmHandle;
 use block::place::Place;
-use operation::words::TwoWords;
 use operation::{modify, read, switch, write};
 use time::{Duration, Instant};
 use timer::interface::Timer;
@@ -45,7 +45,7 @@ pub struct Alarm {
 
 impl Alarm {
     pub fn new(handle: AlarmHandle) -> Alarm
-        ensures number { number result ≡ handle.alarm }
+        ensures number { number result ≡ handle.number }
         ensures origin { result.origin ≡ 0 }
     {
         Alarm { handle, origin: 0 }
@@ -68,14 +68,14 @@ impl Alarm {
     fn bit(&self) -> u32
         ensures { result ≡ own_bit (number self.now) }
     {
-        1 << self.handle.number().index()
+        1 << u8::from(self.handle.number())
     }
 
     // Which bit of CONF the alarm runs by.
     fn run_index(&self) -> u8
         ensures { result ≡ 24 - alarm_number (number self.now) }
     {
-        24 - self.handle.number().index()
+        24 - u8::from(self.handle.number())
     }
 
     // Whether the alarm runs.
@@ -83,7 +83,7 @@ impl Alarm {
         ensures { Performed B.Block.model block.old (switched (system_place Conf) (run_bit (number self.now)) on ∷ []) block.new }
     {
         let bit = 1 << self.run_index();
-        switch(block, Place::system(SystemRegister::Conf), bit, on);
+        switch(block, Place::from(SystemRegister::Conf), bit, on);
     }
 
     fn set_period<B: Block>(&self, block: &mut B, period: u32)
@@ -133,13 +133,13 @@ fn read_count<B: Block>(block: &mut B) -> Result<u64, Error>
     ensures did { Performed B.Block.model block.old (count_ops (can_read (B.Block.model.means block.old))) block.new }
     ensures answer { result ≡ read_of (B.Block.model.means block.old) }
 {
-    write(block, Place::system(SystemRegister::Unit0Op), 0x4000_0000);
-    if !is_set(read(block, Place::group(GroupRegister::Valid)), COUNT_VALID) {
+    write(block, Place::from(SystemRegister::Unit0Op), 0x4000_0000);
+    if !is_set(read(block, Place::from(GroupRegister::Valid)), COUNT_VALID) {
         return Err(Error::Unfinished);
     }
-    let low = read(block, Place::system(SystemRegister::Unit0Lo));
-    let high = read(block, Place::system(SystemRegister::Unit0Hi));
-    let again = read(block, Place::system(SystemRegister::Unit0Lo));
+    let low = read(block, Place::from(SystemRegister::Unit0Lo));
+    let high = read(block, Place::from(SystemRegister::Unit0Hi));
+    let again = read(block, Place::from(SystemRegister::Unit0Lo));
     if again != low {
         return Err(Error::Unfinished);
     }
@@ -168,14 +168,14 @@ impl Timer for Alarm {
     fn reset<B: Block>(&mut self, block: &mut B) {
         switch(
             block,
-            Place::system(SystemRegister::Conf),
+            Place::from(SystemRegister::Conf),
             1 << STALL,
             false,
         );
     }
 
     fn is_running<B: Block>(&mut self, block: &mut B) -> bool {
-        let conf = read(block, Place::system(SystemRegister::Conf));
+        let conf = read(block, Place::from(SystemRegister::Conf));
         is_set(conf, self.run_index())
     }
 
@@ -208,16 +208,16 @@ impl Timer for Alarm {
     }
 
     fn enable_interrupt<B: Block>(&mut self, block: &mut B, state: bool) {
-        let at = Place::system(SystemRegister::IntEna);
+        let at = Place::from(SystemRegister::IntEna);
         switch(block, at, self.bit(), state);
     }
 
     fn clear_interrupt<B: Block>(&mut self, block: &mut B) {
-        write(block, Place::system(SystemRegister::IntClr), self.bit());
+        write(block, Place::from(SystemRegister::IntClr), self.bit());
     }
 
     fn is_interrupt_set<B: Block>(&mut self, block: &mut B) -> bool {
-        let raw = read(block, Place::system(SystemRegister::IntRaw));
-        is_set(raw, self.handle.number().index())
+        let raw = read(block, Place::from(SystemRegister::IntRaw));
+        is_set(raw, u8::from(self.handle.number()))
     }
 }

@@ -19,7 +19,7 @@ use Rattle.timg.specs.declared.group_timer.GroupTimer.{GroupTimer}
 
 -- The number of the timer that a handle is for.
 abbrev pub number : GroupTimer → TimerNumber
-number h = h.handle.timer
+number h = h.handle.number
 
 -- The words of the timer after a call.
 abbrev pub left : TimerNumber → Meaning → Ask → TimerWords

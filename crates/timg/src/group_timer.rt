@@ -13,10 +13,10 @@ ghost use Rattle.timg.specs.GroupKind.{group_kind, number};
 use base::bits::is_set;
 use base::error::Error;
 use base::registers::{GroupRegister, TimerRegister};
+use base::two_words::TwoWords;
 use block::access::Block;
 use block::parts::TimerHandle;
 use block::place::Place;
-use operation::words::TwoWords;
 use operation::{read, switch, write};
 use time::{Duration, Instant};
 use timer::interface::Timer;
@@ -40,7 +40,7 @@ pub struct GroupTimer {
 
 impl GroupTimer {
     pub fn new(handle: TimerHandle) -> GroupTimer
-        ensures { number result ≡ handle.timer }
+        ensures { number result ≡ handle.number }
     {
         GroupTimer { handle }
     }
@@ -55,7 +55,7 @@ impl GroupTimer {
     fn bit(&self) -> u32
         ensures { result ≡ 2 ^ timer_number (number self.now) }
     {
-        1 << self.handle.number().index()
+        1 << u8::from(self.handle.number())
     }
 
     // Latches the count; no word is stored at UPDATE.
@@ -144,8 +144,8 @@ impl Timer for GroupTimer {
     fn now<B: Block>(&mut self, block: &mut B) -> Result<Instant, Error> {
         let clock = block.chip().clock;
         self.latch(block);
-        let valid = read(block, Place::group(GroupRegister::Valid));
-        if !is_set(valid, self.handle.number().index()) {
+        let valid = read(block, Place::from(GroupRegister::Valid));
+        if !is_set(valid, u8::from(self.handle.number())) {
             return Err(Error::Unfinished);
         }
         let low = read(block, self.place(TimerRegister::Lo));
@@ -176,20 +176,20 @@ impl Timer for GroupTimer {
         let (at, bit) = if block.chip().level {
             (self.place(TimerRegister::Config), 1 << LEVEL_INT_EN)
         } else {
-            (Place::group(GroupRegister::IntEna), self.bit())
+            (Place::from(GroupRegister::IntEna), self.bit())
         };
         switch(block, at, bit, state);
     }
 
     fn clear_interrupt<B: Block>(&mut self, block: &mut B) {
-        write(block, Place::group(GroupRegister::IntClr), self.bit());
+        write(block, Place::from(GroupRegister::IntClr), self.bit());
         let config = self.place(TimerRegister::Config);
         let armed = stays_armed(read(block, config));
         switch(block, config, 1 << ALARM_EN, armed);
     }
 
     fn is_interrupt_set<B: Block>(&mut self, block: &mut B) -> bool {
-        let raw = read(block, Place::group(GroupRegister::IntRaw));
-        is_set(raw, self.handle.number().index())
+        let raw = read(block, Place::from(GroupRegister::IntRaw));
+        is_set(raw, u8::from(self.handle.number()))
     }
 }

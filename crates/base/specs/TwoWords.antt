@@ -1,6 +1,6 @@
 -- A number of 64 bits in two words. Assumes nothing.
 use Rattle.std.specs.Prelude.{ℕ, ◌+◌, ◌*◌, ◌/◌, ◌%◌, ◌^◌}
-use Rattle.operation.specs.declared.words.TwoWords.{TwoWords}
+use Rattle.base.specs.declared.two_words.TwoWords.{TwoWords}
 
 -- The number that two words make.
 abbrev pub joined : TwoWords → ℕ

@@ -1,6 +1,6 @@
 // A number in two registers.
 ghost use Rattle.std.specs.Prelude.{◌≡◌};
-ghost use Rattle.operation.specs.Words.{split, joined};
+ghost use Rattle.base.specs.TwoWords.{split, joined};
 
 /// A number of 64 bits, as two registers hold it.
 #[derive(Clone, Copy)]
