@@ -166,12 +166,7 @@ impl Timer for Alarm {
     }
 
     fn reset<B: Block>(&mut self, block: &mut B) {
-        switch(
-            block,
-            Place::from(SystemRegister::Conf),
-            1 << STALL,
-            false,
-        );
+        switch(block, Place::from(SystemRegister::Conf), 1 << STALL, false);
     }
 
     fn is_running<B: Block>(&mut self, block: &mut B) -> bool {

@@ -12,5 +12,5 @@ pub returns : goal.returns
 returns g c =
     let at = timer_place (number c.args.self.now) Config in
     let config : get_or (g.B.Block.model.means c.write.new.block).words at 0 ≡ get_or (g.B.Block.model.means c.args.block.now).words at 0 =
-    rw (put_by ClearsGroup (rw c.group.ensures) c.write.ensures) (grind (arith, common_steps)) in
+    rw (put_by ClearsGroup (rw c.from.ensures) c.write.ensures) (grind (arith, common_steps)) in
     group_call (c.write.ensures >> c.read.ensures.did >> c.switch.ensures) cc
