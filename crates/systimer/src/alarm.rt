@@ -82,8 +82,8 @@ impl Alarm {
     fn run<B: Block>(&self, block: &mut B, on: bool)
         ensures { Performed B.Block.model block.old (switched (system_place Conf) (run_bit (number self.now)) on ∷ []) block.new }
     {
-        let bit = 1 << self.run_index();
-        switch(block, Place::system(SystemRegister::Conf), bit, on);
+        let conf = Place::system(SystemRegister::Conf);
+        switch(block, conf, 1 << self.run_index(), on);
     }
 
     fn set_period<B: Block>(&self, block: &mut B, period: u32)
@@ -166,12 +166,8 @@ impl Timer for Alarm {
     }
 
     fn reset<B: Block>(&mut self, block: &mut B) {
-        switch(
-            block,
-            Place::system(SystemRegister::Conf),
-            1 << STALL,
-            false,
-        );
+        let conf = Place::system(SystemRegister::Conf);
+        switch(block, conf, 1 << STALL, false);
     }
 
     fn is_running<B: Block>(&mut self, block: &mut B) -> bool {
