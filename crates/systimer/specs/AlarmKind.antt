@@ -1,5 +1,5 @@
 -- The alarm as a kind of timer: what it is and does is in the pages before; what follows that is proof.
-use Rattle.std.specs.Prelude.{◌≡◌, ℕ, ◌*◌, ◌^◌, Bool, true, false, cond, List, length, Some, refl}
+use Rattle.std.specs.Prelude.{◌≡◌, ℕ, ◌*◌, ◌^◌, Bool, true, false, cond, List, length, Some, ◌≢◌, refl}
 use Rattle.std.proofs.Common.{sym, ap, subst, ◌∙◌, arith}
 use Rattle.base.specs.Bits.{bit}
 use Rattle.base.specs.Chips.{system_mhz}
@@ -8,6 +8,7 @@ use Rattle.block.specs.Places.{place_count, group_place}
 use Rattle.operation.specs.Operations.{accesses}
 use Rattle.base.specs.declared.numbers.AlarmNumber.{AlarmNumber}
 use Rattle.base.specs.declared.registers.GroupRegister.TheVariants.{Valid}
+use Rattle.timer.specs.declared.part.Part.{Part}
 use Rattle.timer.specs.declared.part.Part.TheVariants.{Alarm as AlarmPart, Watchdog}
 use Rattle.timer.specs.Parts.{word, Untouched}
 use Rattle.timer.specs.Kinds.{Kind, Ask, effect}
@@ -17,7 +18,7 @@ use Rattle.systimer.specs.Steps.{alarm_ops, words_left, origin_left}
 use Rattle.systimer.specs.Views.{view_by, alarm_view, alarm_reads, found, due_of, can_read, count_of}
 use Rattle.systimer.specs.WordLaws.{call_words, words_back}
 use Rattle.systimer.specs.ViewLaws.{call_view}
-use Rattle.systimer.specs.PartLaws.{replaced, call_shared, others_kept, watchdog_kept, alarm_local, alarm_drift, alarm_idle, alarm_silent}
+use Rattle.systimer.specs.PartLaws.{replaced, call_shared, others_kept, alarm_local, alarm_drift, alarm_idle, alarm_silent}
 use Rattle.systimer.specs.declared.alarm.Alarm.{Alarm}
 
 -- The number of the alarm that a handle is for.
@@ -36,9 +37,12 @@ module _ (n : AlarmNumber) (m : Meaning) (a : Ask) (sized : length m.words ≡ p
   pub after_call : after m (accesses m (alarm_ops n (found n m) a)) ≡ replaced n m (left n m a)
   after_call = ap (λ (ws : List ℕ). record { chip = m.chip; words = ws }) (call_words n (found n m) a m sized)
 
+  kept_apart : (p : Part) → (p ≢ AlarmPart n) → Untouched p m (replaced n m (left n m a))
+  kept_apart p d = others_kept n p (left n m a) m sized (call_shared n (found n m) a (words_of n m.words)) d
+
   -- no call changes whether the count can be read
   pub still_valid : can_read (replaced n m (left n m a)) ≡ can_read m
-  still_valid = ap (λ (w : ℕ). bit w 2) (watchdog_kept (left n m a) m sized n).valid
+  still_valid = ap (λ (w : ℕ). bit w 2) (kept_apart Watchdog (λ e. cc)).valid
 
   pub view_after : (origin : ℕ) → alarm_view n (origin_left (found n m) a origin) (after m (accesses m (alarm_ops n (found n m) a))) ≡ effect (λ on. due_of on origin (words_of n m.words)) a (alarm_view n origin m)
   view_after origin =
@@ -47,6 +51,12 @@ module _ (n : AlarmNumber) (m : Meaning) (a : Ask) (sized : length m.words ≡ p
       ∙ ap (λ (r : AlarmWords). view_by m.chip n (can_read (replaced n m (left n m a))) o r) (words_back n (left n m a) m sized)
       ∙ ap (λ (valid : Bool). view_by m.chip n valid o (left n m a)) still_valid
       ∙ call_view m.chip n (can_read m) (count_of m) origin (words_of n m.words) a
+
+  pub untouched : (p : Part) → (p ≢ AlarmPart n) → Untouched p m (after m (accesses m (alarm_ops n (found n m) a)))
+  untouched p d = subst (Untouched p m) (sym after_call) (kept_apart p d)
+
+  pub watchdog_untouched : Untouched Watchdog m (after m (accesses m (alarm_ops n (found n m) a)))
+  watchdog_untouched = untouched Watchdog (λ e. cc)
 
 nothing : (k : ℕ) → 0 * k ≡ 0
 nothing k = omega arith
@@ -73,9 +83,8 @@ alarm_kind = record {
   shows = λ h m a sized. view_after (number h) m a sized h.origin;
   same_repeat = λ h m on e. ap (λ (b : Bool). due_of b h.origin (words_of (number h) m.words)) (sym e);
   part_kept = λ h m a. refl;
-  others = λ h m a p sized d. subst (Untouched p m) (sym (after_call (number h) m a sized))
-      (others_kept (left (number h) m a) m sized (number h) p (call_shared (number h) (found (number h) m) a (words_of (number h) m.words)) d);
-  watchdog = λ h m a sized. subst (Untouched Watchdog m) (sym (after_call (number h) m a sized)) (watchdog_kept (left (number h) m a) m sized (number h));
+  others = λ h m a p sized d. untouched (number h) m a sized p d;
+  watchdog = λ h m a sized. watchdog_untouched (number h) m a sized;
   local = λ h m k u. alarm_local (number h) h.origin m k u;
   drift = λ h m k d. alarm_drift (number h) h.origin m k d;
   no_time = λ h m on. no_ticks (system_mhz m.chip) on;

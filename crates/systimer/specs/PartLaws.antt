@@ -1,6 +1,6 @@
 -- That an alarm touches its own part alone, is made of that part alone, and drifts as it may. These are proofs, with nothing in them to believe.
-use Rattle.std.specs.Prelude.{◌≡◌, ℕ, zero, suc, ◌-◌, Bool, true, false, List, [], ◌∷◌, length, Some, None, Option, ◌≢◌, slice_index, slice_index_or, refl}
-use Rattle.std.proofs.Common.{ap}
+use Rattle.std.specs.Prelude.{◌≡◌, ℕ, ◌-◌, ◌<◌, Bool, true, false, length, Some, None, Option, ◌≢◌, refl}
+use Rattle.std.proofs.Common.{ap, arith}
 use Rattle.base.specs.Bits.{bit}
 use Rattle.base.specs.Numbers.{alarm_number}
 use Rattle.base.specs.Chips.{Valid as WithinLimits}
@@ -8,10 +8,9 @@ use Rattle.block.specs.Accesses.{Meaning, new_block}
 use Rattle.block.specs.Places.{place_count}
 use Rattle.block.specs.Puts.{without}
 use Rattle.operation.specs.Operations.{with_bits}
-use Rattle.operation.proofs.Masks.{bit_changed, bit_without, bit_same}
+use Rattle.operation.proofs.Masks.{bit_unswitched, bit_untaken, bit_same}
 use Rattle.operation.proofs.Written.{written, at_written}
 use Rattle.base.specs.declared.chip.Chip.{Chip}
-use Rattle.base.specs.declared.numbers.TimerNumber.{TimerNumber}
 use Rattle.base.specs.declared.numbers.TimerNumber.TheVariants.{Zero as Zero', One as One'}
 use Rattle.base.specs.declared.numbers.AlarmNumber.{AlarmNumber}
 use Rattle.base.specs.declared.numbers.AlarmNumber.TheVariants.{Zero, One, Two}
@@ -31,55 +30,32 @@ pub record Shared (n : AlarmNumber) (r s : AlarmWords) : Type 0 where
   pub ena : (q : AlarmNumber) → (q ≢ n) → bit s.int_ena (alarm_number q) ≡ bit r.int_ena (alarm_number q)
   pub raw : (q : AlarmNumber) → (q ≢ n) → bit s.int_raw (alarm_number q) ≡ bit r.int_raw (alarm_number q)
 
-run_other : (w : ℕ) (n q : AlarmNumber) (on : Bool) → (q ≢ n) → bit (with_bits w (run_bit n) on) (24 - alarm_number q) ≡ bit w (24 - alarm_number q)
-run_other w Zero Zero on d = absurd (d refl)
-run_other w Zero One true d = rw bit_changed
-run_other w Zero One false d = rw bit_changed
-run_other w Zero Two true d = rw bit_changed
-run_other w Zero Two false d = rw bit_changed
-run_other w One Zero true d = rw bit_changed
-run_other w One Zero false d = rw bit_changed
-run_other w One One on d = absurd (d refl)
-run_other w One Two true d = rw bit_changed
-run_other w One Two false d = rw bit_changed
-run_other w Two Zero true d = rw bit_changed
-run_other w Two Zero false d = rw bit_changed
-run_other w Two One true d = rw bit_changed
-run_other w Two One false d = rw bit_changed
-run_other w Two Two on d = absurd (d refl)
+small : (n : AlarmNumber) → alarm_number n < 3
+small n = grind arith
 
-stall_other : (w : ℕ) (q : AlarmNumber) → bit (with_bits w stall_bit false) (24 - alarm_number q) ≡ bit w (24 - alarm_number q)
-stall_other w Zero = rw bit_changed
-stall_other w One = rw bit_changed
-stall_other w Two = rw bit_changed
+pub below : (n : AlarmNumber) → alarm_number n < 32
+below n = omega (arith, small n)
+
+pub run_below : (n : AlarmNumber) → 24 - alarm_number n < 32
+run_below n = omega arith
+
+apart : (n q : AlarmNumber) → (q ≢ n) → alarm_number q ≢ alarm_number n
+apart n q d = grind arith
+
+run_apart : (n q : AlarmNumber) → (q ≢ n) → 24 - alarm_number q ≢ 24 - alarm_number n
+run_apart n q d = grind (arith, apart n q d, small n, small q)
+
+run_other : (w : ℕ) (n q : AlarmNumber) (on : Bool) → (q ≢ n) → bit (with_bits w (run_bit n) on) (24 - alarm_number q) ≡ bit w (24 - alarm_number q)
+run_other w n q on d = bit_unswitched w (24 - alarm_number n) (run_below n) on (24 - alarm_number q) (run_below q) (run_apart n q d)
+
+pub stall_other : (w : ℕ) (q : AlarmNumber) → bit (with_bits w stall_bit false) (24 - alarm_number q) ≡ bit w (24 - alarm_number q)
+stall_other w q = bit_unswitched w 28 (omega arith) false (24 - alarm_number q) (run_below q) (omega arith)
 
 ena_other : (w : ℕ) (n q : AlarmNumber) (on : Bool) → (q ≢ n) → bit (with_bits w (own_bit n) on) (alarm_number q) ≡ bit w (alarm_number q)
-ena_other w Zero Zero on d = absurd (d refl)
-ena_other w Zero One true d = rw bit_changed
-ena_other w Zero One false d = rw bit_changed
-ena_other w Zero Two true d = rw bit_changed
-ena_other w Zero Two false d = rw bit_changed
-ena_other w One Zero true d = rw bit_changed
-ena_other w One Zero false d = rw bit_changed
-ena_other w One One on d = absurd (d refl)
-ena_other w One Two true d = rw bit_changed
-ena_other w One Two false d = rw bit_changed
-ena_other w Two Zero true d = rw bit_changed
-ena_other w Two Zero false d = rw bit_changed
-ena_other w Two One true d = rw bit_changed
-ena_other w Two One false d = rw bit_changed
-ena_other w Two Two on d = absurd (d refl)
+ena_other w n q on d = bit_unswitched w (alarm_number n) (below n) on (alarm_number q) (below q) (apart n q d)
 
 raw_other : (w : ℕ) (n q : AlarmNumber) → (q ≢ n) → bit (without w (own_bit n)) (alarm_number q) ≡ bit w (alarm_number q)
-raw_other w Zero Zero d = absurd (d refl)
-raw_other w Zero One d = rw bit_without
-raw_other w Zero Two d = rw bit_without
-raw_other w One Zero d = rw bit_without
-raw_other w One One d = absurd (d refl)
-raw_other w One Two d = rw bit_without
-raw_other w Two Zero d = rw bit_without
-raw_other w Two One d = rw bit_without
-raw_other w Two Two d = absurd (d refl)
+raw_other w n q d = bit_untaken w (alarm_number n) (alarm_number q) (apart n q d)
 
 same_shared : (n : AlarmNumber) (r s : AlarmWords) → s.conf ≡ r.conf → s.int_ena ≡ r.int_ena → s.int_raw ≡ r.int_raw → Shared n r s
 same_shared n r s a b c = record { conf = λ q d. rw a; ena = λ q d. rw b; raw = λ q d. rw c }
@@ -107,68 +83,48 @@ call_shared n x AskPending r = same_shared n r r refl refl refl
 abbrev pub replaced : AlarmNumber → Meaning → AlarmWords → Meaning
 replaced n m r = record { chip = m.chip; words = with_words n m.words r }
 
+-- Where the others' bits are the same, the words of alarm n are no other part's.
+abbrev Kept : AlarmNumber → Part → AlarmWords → Meaning → Type 0
+Kept n p r m = Shared n (words_of n m.words) r → (p ≢ Alarm n) → Untouched p m (replaced n m r)
+
 alike : {p : Part} {m k : Meaning} → k.chip ≡ m.chip → word k 29 ≡ word m 29 → own_words p k ≡ own_words p m → own_bits p k ≡ own_bits p m → Untouched p m k
 alike c v w b = record { chip = c; valid = v; words = w; bits = b }
 
--- replaced words of an alarm are no other part's
-module _ (r : AlarmWords) (m : Meaning) (sized : length m.words ≡ place_count) where
-  -- what holds of the words written out
-  abbrev written_out : AlarmNumber → Part → Type 0
-  written_out n p = (chip : Chip) (f : ℕ → ℕ) → Untouched p (written chip f) (replaced n (written chip f) r)
+other : (q n : AlarmNumber) → (Alarm q ≢ Alarm n) → q ≢ n
+other q n d e = d (ap Alarm e)
 
-  out : (n : AlarmNumber) (p : Part) → written_out n p → Untouched p m (replaced n m r)
-  out n p all = at_written (λ (m : Meaning). Untouched p m (replaced n m r)) m sized all
+kept : (chip : Chip) (f : ℕ → ℕ) (n : AlarmNumber) (p : Part) (r : AlarmWords) → Kept n p r (written chip f)
+kept chip f Zero (Alarm Zero) r s d = absurd (d refl)
+kept chip f Zero (Alarm One) r s d = let e = other One Zero d in alike refl refl refl (rw (s.conf One e, s.ena One e, s.raw One e))
+kept chip f Zero (Alarm Two) r s d = let e = other Two Zero d in alike refl refl refl (rw (s.conf Two e, s.ena Two e, s.raw Two e))
+kept chip f One (Alarm Zero) r s d = let e = other Zero One d in alike refl refl refl (rw (s.conf Zero e, s.ena Zero e, s.raw Zero e))
+kept chip f One (Alarm One) r s d = absurd (d refl)
+kept chip f One (Alarm Two) r s d = let e = other Two One d in alike refl refl refl (rw (s.conf Two e, s.ena Two e, s.raw Two e))
+kept chip f Two (Alarm Zero) r s d = let e = other Zero Two d in alike refl refl refl (rw (s.conf Zero e, s.ena Zero e, s.raw Zero e))
+kept chip f Two (Alarm One) r s d = let e = other One Two d in alike refl refl refl (rw (s.conf One e, s.ena One e, s.raw One e))
+kept chip f Two (Alarm Two) r s d = absurd (d refl)
+kept chip f Zero (Timer Zero') r s d = alike refl refl refl refl
+kept chip f Zero (Timer One') r s d = alike refl refl refl refl
+kept chip f One (Timer Zero') r s d = alike refl refl refl refl
+kept chip f One (Timer One') r s d = alike refl refl refl refl
+kept chip f Two (Timer Zero') r s d = alike refl refl refl refl
+kept chip f Two (Timer One') r s d = alike refl refl refl refl
+kept chip f Zero Watchdog r s d = alike refl refl refl refl
+kept chip f One Watchdog r s d = alike refl refl refl refl
+kept chip f Two Watchdog r s d = alike refl refl refl refl
 
-  pub watchdog_kept : (n : AlarmNumber) → Untouched Watchdog m (replaced n m r)
-  watchdog_kept Zero = out Zero Watchdog (λ chip f. alike refl refl refl refl)
-  watchdog_kept One = out One Watchdog (λ chip f. alike refl refl refl refl)
-  watchdog_kept Two = out Two Watchdog (λ chip f. alike refl refl refl refl)
-
-  timer_kept : (n : AlarmNumber) (q : TimerNumber) → Untouched (Timer q) m (replaced n m r)
-  timer_kept Zero Zero' = out Zero (Timer Zero') (λ chip f. alike refl refl refl refl)
-  timer_kept Zero One' = out Zero (Timer One') (λ chip f. alike refl refl refl refl)
-  timer_kept One Zero' = out One (Timer Zero') (λ chip f. alike refl refl refl refl)
-  timer_kept One One' = out One (Timer One') (λ chip f. alike refl refl refl refl)
-  timer_kept Two Zero' = out Two (Timer Zero') (λ chip f. alike refl refl refl refl)
-  timer_kept Two One' = out Two (Timer One') (λ chip f. alike refl refl refl refl)
-
-  shared_out : (n q : AlarmNumber) → ((chip : Chip) (f : ℕ → ℕ) → Shared n (words_of n (written chip f).words) r → Untouched (Alarm q) (written chip f) (replaced n (written chip f) r))
-      → Shared n (words_of n m.words) r → Untouched (Alarm q) m (replaced n m r)
-  shared_out n q all = at_written (λ (m : Meaning). Shared n (words_of n m.words) r → Untouched (Alarm q) m (replaced n m r)) m sized all
-
-  alarm_kept : (n q : AlarmNumber) → (q ≢ n) → Shared n (words_of n m.words) r → Untouched (Alarm q) m (replaced n m r)
-  alarm_kept Zero Zero d s = absurd (d refl)
-  alarm_kept Zero One d s = shared_out Zero One (λ chip f s. alike refl refl refl (rw (s.conf One d, s.ena One d, s.raw One d))) s
-  alarm_kept Zero Two d s = shared_out Zero Two (λ chip f s. alike refl refl refl (rw (s.conf Two d, s.ena Two d, s.raw Two d))) s
-  alarm_kept One Zero d s = shared_out One Zero (λ chip f s. alike refl refl refl (rw (s.conf Zero d, s.ena Zero d, s.raw Zero d))) s
-  alarm_kept One One d s = absurd (d refl)
-  alarm_kept One Two d s = shared_out One Two (λ chip f s. alike refl refl refl (rw (s.conf Two d, s.ena Two d, s.raw Two d))) s
-  alarm_kept Two Zero d s = shared_out Two Zero (λ chip f s. alike refl refl refl (rw (s.conf Zero d, s.ena Zero d, s.raw Zero d))) s
-  alarm_kept Two One d s = shared_out Two One (λ chip f s. alike refl refl refl (rw (s.conf One d, s.ena One d, s.raw One d))) s
-  alarm_kept Two Two d s = absurd (d refl)
-
-  pub others_kept : (n : AlarmNumber) (p : Part) → Shared n (words_of n m.words) r → (p ≢ Alarm n) → Untouched p m (replaced n m r)
-  others_kept n (Timer q) s d = timer_kept n q
-  others_kept n (Alarm q) s d = alarm_kept n q (λ e. d (ap Alarm e)) s
-  others_kept n Watchdog s d = watchdog_kept n
-
--- Element i of a list of bits.
-bit_at : List Bool → ℕ → Bool
-bit_at [] i = false
-bit_at (x ∷ xs) zero = x
-bit_at (x ∷ xs) (suc i) = bit_at xs i
+pub others_kept : (n : AlarmNumber) (p : Part) (r : AlarmWords) (m : Meaning) → length m.words ≡ place_count → Kept n p r m
+others_kept n p r m sized = at_written (Kept n p r) m sized (λ chip f. kept chip f n p r)
 
 -- an alarm is made of its part alone
 pub alarm_local : (n : AlarmNumber) (origin : ℕ) (m k : Meaning) → Untouched (Alarm n) m k → alarm_view n origin k ≡ alarm_view n origin m
-unfolding bit_at
 alarm_local n origin m k u =
-    let own : (i : ℕ) → slice_index (own_words (Alarm n) k) i ≡ slice_index_or (own_words (Alarm n) m) i 0 = λ i. ap (λ (l : List ℕ). slice_index l i) u.words in
-    let run : bit (word k 30) (24 - alarm_number n) ≡ bit (word m 30) (24 - alarm_number n) = ap (λ (l : List Bool). bit_at l 0) u.bits in
-    let ena : bit (word k 46) (alarm_number n) ≡ bit (word m 46) (alarm_number n) = ap (λ (l : List Bool). bit_at l 1) u.bits in
-    let raw : bit (word k 47) (alarm_number n) ≡ bit (word m 47) (alarm_number n) = ap (λ (l : List Bool). bit_at l 2) u.bits in
-    let high : (words_of n k.words).target_hi ≡ (words_of n m.words).target_hi = own 0 in
-    let low : (words_of n k.words).target_lo ≡ (words_of n m.words).target_lo = own 1 in
-    let conf : (words_of n k.words).target_conf ≡ (words_of n m.words).target_conf = own 2 in
+    let run : bit (word k 30) (24 - alarm_number n) ≡ bit (word m 30) (24 - alarm_number n) = cc (u.bits) in
+    let ena : bit (word k 46) (alarm_number n) ≡ bit (word m 46) (alarm_number n) = cc (u.bits) in
+    let raw : bit (word k 47) (alarm_number n) ≡ bit (word m 47) (alarm_number n) = cc (u.bits) in
+    let high : (words_of n k.words).target_hi ≡ (words_of n m.words).target_hi = cc (u.words) in
+    let low : (words_of n k.words).target_lo ≡ (words_of n m.words).target_lo = cc (u.words) in
+    let conf : (words_of n k.words).target_conf ≡ (words_of n m.words).target_conf = cc (u.words) in
     rw (u.chip, u.valid, run, ena, raw, high, low, conf)
 
 words_same : (n : AlarmNumber) (m k : Meaning) → Drifted m k
@@ -194,9 +150,9 @@ alarm_drift n origin m k d =
 
 -- on a new block an alarm neither runs nor listens
 pub alarm_idle : (n : AlarmNumber) (origin : ℕ) (chip : Chip) → WithinLimits chip → (alarm_view n origin (new_block chip)).run ≡ false
-alarm_idle Zero origin chip h = bit_same chip.reset.conf 0 0x01C00000 h.2.2 24 refl refl
-alarm_idle One origin chip h = bit_same chip.reset.conf 0 0x01C00000 h.2.2 23 refl refl
-alarm_idle Two origin chip h = bit_same chip.reset.conf 0 0x01C00000 h.2.2 22 refl refl
+alarm_idle Zero origin chip h = bit_same chip.reset.conf 0 0x01C00000 h.2.2 24 refl
+alarm_idle One origin chip h = bit_same chip.reset.conf 0 0x01C00000 h.2.2 23 refl
+alarm_idle Two origin chip h = bit_same chip.reset.conf 0 0x01C00000 h.2.2 22 refl
 
 pub alarm_silent : (n : AlarmNumber) (origin : ℕ) (chip : Chip) → (alarm_view n origin (new_block chip)).listening ≡ false
 alarm_silent Zero origin chip = refl

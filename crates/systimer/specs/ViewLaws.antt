@@ -1,22 +1,23 @@
 -- What a call makes of an alarm. These are proofs, with nothing in them to believe.
-use Rattle.std.specs.Prelude.{◌≡◌, ℕ, ◌+◌, ◌*◌, ◌/◌, ◌%◌, ◌^◌, ◌<◌, Bool, true, false, cond, Some, None, bit_or, nat_lt, refl}
+use Rattle.std.specs.Prelude.{◌≡◌, ℕ, ◌+◌, ◌-◌, ◌*◌, ◌/◌, ◌%◌, ◌^◌, ◌<◌, Bool, true, false, cond, Some, None, bit_or, nat_lt, refl}
 use Rattle.std.proofs.Common.{ap, ◌∙◌, arith, ltb-true}
 use Rattle.std.specs.Int.Bits.{and_zero_r, or_zero_l}
 use Rattle.base.specs.Bits.{bit, field}
 use Rattle.base.specs.Chips.{system_mhz}
+use Rattle.base.specs.Numbers.{alarm_number}
 use Rattle.block.specs.Puts.{without}
 use Rattle.operation.specs.Operations.{changed, all_but, with_bits}
-use Rattle.operation.proofs.Masks.{bit_changed, field_changed, field_kept, bit_without}
+use Rattle.operation.proofs.Masks.{bit_changed, field_changed, field_kept, bit_switched, bit_taken}
 use Rattle.setting.specs.Timings.{count_difference}
 use Rattle.base.specs.declared.chip.Chip.{Chip}
 use Rattle.base.specs.declared.numbers.AlarmNumber.{AlarmNumber}
-use Rattle.base.specs.declared.numbers.AlarmNumber.TheVariants.{Zero, One, Two}
 use Rattle.timer.specs.Views.{with_run, with_repeat, with_pending, with_listening, with_due, due_by}
 use Rattle.timer.specs.Kinds.{Ask, Start, Stop, Reset, AskRunning, AskNow, Load, Reload, Listen, Clear, AskPending, effect}
 use Rattle.systimer.specs.Rates.{tick_limit, ticks_at}
 use Rattle.systimer.specs.Words.{AlarmWords, with_target_conf, with_conf, with_int_ena, with_int_raw}
 use Rattle.systimer.specs.Steps.{Found, words_left, origin_left, after_load, origin_after, count_after, run_bit, stall_bit, period_mode, period_bits, own_bit}
 use Rattle.systimer.specs.Views.{view_by, due_of}
+use Rattle.systimer.specs.PartLaws.{below, run_below, stall_other}
 
 -- a period that is set is the period
 period_set : (w ticks : ℕ) → ticks < 2 ^ 26 → field (with_bits (changed w (all_but period_bits) ticks) period_mode true) 0 26 ≡ ticks
@@ -59,34 +60,20 @@ module _ (chip : Chip) (n : AlarmNumber) (count origin : ℕ) (r : AlarmWords) w
 
 module _ (chip : Chip) (valid : Bool) (origin : ℕ) (r : AlarmWords) where
   run_view : (n : AlarmNumber) (on : Bool) → view_by chip n valid origin (with_conf (with_bits r.conf (run_bit n) on) r) ≡ with_run on (view_by chip n valid origin r)
-  run_view Zero true = rw bit_changed
-  run_view Zero false = rw bit_changed
-  run_view One true = rw bit_changed
-  run_view One false = rw bit_changed
-  run_view Two true = rw bit_changed
-  run_view Two false = rw bit_changed
+  run_view n on = rw (bit_switched r.conf (24 - alarm_number n) (run_below n) on)
 
   reset_view : (n : AlarmNumber) → view_by chip n valid origin (with_conf (with_bits r.conf stall_bit false) r) ≡ view_by chip n valid origin r
-  reset_view Zero = rw bit_changed
-  reset_view One = rw bit_changed
-  reset_view Two = rw bit_changed
+  reset_view n = rw (stall_other r.conf n)
 
   repeat_view : (n : AlarmNumber) (on : Bool) → view_by chip n valid origin (with_target_conf (with_bits r.target_conf period_mode on) r) ≡ with_repeat on (due_of on origin r) (view_by chip n valid origin r)
   repeat_view n true = rw (bit_changed r.target_conf (all_but period_mode) period_mode 30, field_kept r.target_conf (all_but period_mode) period_mode 0 26 refl refl)
   repeat_view n false = rw (bit_changed r.target_conf (all_but period_mode) 0 30)
 
   listen_view : (n : AlarmNumber) (on : Bool) → view_by chip n valid origin (with_int_ena (with_bits r.int_ena (own_bit n) on) r) ≡ with_listening on (view_by chip n valid origin r)
-  listen_view Zero true = rw bit_changed
-  listen_view Zero false = rw bit_changed
-  listen_view One true = rw bit_changed
-  listen_view One false = rw bit_changed
-  listen_view Two true = rw bit_changed
-  listen_view Two false = rw bit_changed
+  listen_view n on = rw (bit_switched r.int_ena (alarm_number n) (below n) on)
 
   clear_view : (n : AlarmNumber) → view_by chip n valid origin (with_int_raw (without r.int_raw (own_bit n)) r) ≡ with_pending false (view_by chip n valid origin r)
-  clear_view Zero = rw bit_without
-  clear_view One = rw bit_without
-  clear_view Two = rw bit_without
+  clear_view n = rw bit_taken
 
 -- each call makes of the alarm what is said of it
 pub call_view : (chip : Chip) (n : AlarmNumber) (valid : Bool) (count origin : ℕ) (r : AlarmWords) (a : Ask)

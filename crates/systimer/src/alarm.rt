@@ -13,10 +13,10 @@ ghost use Rattle.systimer.specs.Steps.{run_bit, own_bit, count_ops, period_ops, 
 use base::bits::is_set;
 use base::error::Error;
 use base::registers::{AlarmRegister, GroupRegister, SystemRegister};
-use base::two_words::TwoWords;
 use block::access::Block;
 use block::parts::AlarmHandle;
 use block::place::Place;
+use operation::words::TwoWords;
 use operation::{modify, read, switch, write};
 use time::{Duration, Instant};
 use timer::interface::Timer;
@@ -82,8 +82,8 @@ impl Alarm {
     fn run<B: Block>(&self, block: &mut B, on: bool)
         ensures { Performed B.Block.model block.old (switched (system_place Conf) (run_bit (number self.now)) on ∷ []) block.new }
     {
-        let bit = 1 << self.run_index();
-        switch(block, Place::from(SystemRegister::Conf), bit, on);
+        let conf = Place::from(SystemRegister::Conf);
+        switch(block, conf, 1 << self.run_index(), on);
     }
 
     fn set_period<B: Block>(&self, block: &mut B, period: u32)
@@ -166,7 +166,8 @@ impl Timer for Alarm {
     }
 
     fn reset<B: Block>(&mut self, block: &mut B) {
-        switch(block, Place::from(SystemRegister::Conf), 1 << STALL, false);
+        let conf = Place::from(SystemRegister::Conf);
+        switch(block, conf, 1 << STALL, false);
     }
 
     fn is_running<B: Block>(&mut self, block: &mut B) -> bool {

@@ -1,9 +1,10 @@
 -- The group timer as a kind of timer: what it is and does is in the pages before; what follows that is proof.
-use Rattle.std.specs.Prelude.{◌≡◌, ℕ, ◌*◌, ◌/◌, ◌^◌, cond, List, length, Some, None, nat_lt, refl}
+use Rattle.std.specs.Prelude.{◌≡◌, ℕ, ◌*◌, ◌/◌, ◌^◌, cond, List, length, Some, None, nat_lt, ◌≢◌, refl}
 use Rattle.std.proofs.Common.{sym, ap, subst, ◌∙◌, arith}
 use Rattle.block.specs.Accesses.{Meaning, after}
 use Rattle.block.specs.Places.{place_count}
 use Rattle.operation.specs.Operations.{accesses}
+use Rattle.timer.specs.declared.part.Part.{Part}
 use Rattle.timer.specs.declared.part.Part.TheVariants.{Timer, Watchdog}
 use Rattle.timer.specs.Parts.{Untouched}
 use Rattle.timer.specs.Kinds.{Kind, Ask, effect}
@@ -14,7 +15,7 @@ use Rattle.timg.specs.Steps.{timer_ops, words_left}
 use Rattle.timg.specs.Views.{view_by, timer_view, timer_reads, found, can_read}
 use Rattle.timg.specs.WordLaws.{call_words, words_back}
 use Rattle.timg.specs.ViewLaws.{call_view}
-use Rattle.timg.specs.PartLaws.{replaced, call_shared, others_kept, watchdog_kept, timer_local, timer_drift, timer_idle, timer_silent}
+use Rattle.timg.specs.PartLaws.{replaced, call_shared, others_kept, timer_local, timer_drift, timer_idle, timer_silent}
 use Rattle.timg.specs.declared.group_timer.GroupTimer.{GroupTimer}
 
 -- The number of the timer that a handle is for.
@@ -35,6 +36,12 @@ module _ (n : TimerNumber) (m : Meaning) (a : Ask) (sized : length m.words ≡ p
       ∙ ap (view_by m.chip n) (words_back n (left n m a) m sized)
       ∙ call_view m.chip n (can_read n m) (words_of n m.words) a
 
+  pub untouched : (p : Part) → (p ≢ Timer n) → Untouched p m (after m (accesses m (timer_ops n (found n m) a)))
+  untouched p d = subst (Untouched p m) (sym after_call) (others_kept n p (left n m a) m sized (call_shared n (found n m) a (words_of n m.words)) d)
+
+  pub watchdog_untouched : Untouched Watchdog m (after m (accesses m (timer_ops n (found n m) a)))
+  watchdog_untouched = untouched Watchdog (λ e. cc)
+
 pub no_ticks : (rate : ℕ) → ticks_at rate 0 ≡ Some 0
 no_ticks rate =
     let e : 0 * rate ≡ 0 = omega arith in
@@ -54,9 +61,8 @@ group_kind = record {
   shows = λ h m a sized. view_after (number h) m a sized;
   same_repeat = λ h m on e. refl;
   part_kept = λ h m a. refl;
-  others = λ h m a p sized d. subst (Untouched p m) (sym (after_call (number h) m a sized))
-      (others_kept (left (number h) m a) (number h) m p sized (call_shared (number h) (found (number h) m) a (words_of (number h) m.words)) d);
-  watchdog = λ h m a sized. subst (Untouched Watchdog m) (sym (after_call (number h) m a sized)) (watchdog_kept (left (number h) m a) (number h) m sized);
+  others = λ h m a p sized d. untouched (number h) m a sized p d;
+  watchdog = λ h m a sized. watchdog_untouched (number h) m a sized;
   local = λ h m k u. timer_local (number h) m k u;
   drift = λ h m k d. timer_drift (number h) m k d;
   no_time = λ h m on. no_ticks (ticks_per_second m.chip (words_of (number h) m.words).config);

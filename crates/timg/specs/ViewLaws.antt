@@ -1,29 +1,29 @@
 -- What a call makes of a group timer. These are proofs, with nothing in them to believe.
-use Rattle.std.specs.Prelude.{◌≡◌, ℕ, ◌+◌, ◌*◌, ◌/◌, ◌%◌, ◌^◌, Bool, true, false, cond, Some, None, Option, refl}
+use Rattle.std.specs.Prelude.{◌≡◌, ℕ, ◌+◌, ◌*◌, ◌/◌, ◌%◌, ◌^◌, Bool, true, false, cond, ◌&&◌, ◌||◌, Some, None, Option, refl}
 use Rattle.std.proofs.Common.{ap, ◌∙◌, arith}
 use Rattle.base.specs.Bits.{bit, field}
 use Rattle.base.specs.Numbers.{timer_number}
 use Rattle.block.specs.Puts.{without}
 use Rattle.operation.specs.Operations.{changed, with_bits}
-use Rattle.operation.proofs.Masks.{changed_bit, bit_changed, field_kept, bit_without}
+use Rattle.operation.proofs.Masks.{bit_changed, field_kept, bit_switched, bit_taken}
 use Rattle.base.specs.declared.chip.Chip.{Chip}
 use Rattle.base.specs.declared.numbers.TimerNumber.{TimerNumber}
-use Rattle.base.specs.declared.numbers.TimerNumber.TheVariants.{Zero, One}
 use Rattle.timer.specs.Views.{with_repeat, with_pending, with_listening, with_due, due_by}
 use Rattle.timer.specs.Kinds.{Ask, Start, Stop, Reset, AskRunning, AskNow, Load, Reload, Listen, Clear, AskPending, effect}
 use Rattle.timg.specs.Rates.{ticks_per_second, ticks_at}
 use Rattle.timg.specs.Words.{TimerWords, with_config, with_int_raw}
 use Rattle.timg.specs.Steps.{words_left, after_load, after_listen, stays_armed}
 use Rattle.timg.specs.Views.{view_by}
+use Rattle.timg.specs.PartLaws.{small}
 
 module _ (chip : Chip) (n : TimerNumber) where
   -- CONFIG changed in its bits, and not in DIVIDER
   config_view : (r : TimerWords) (keep on : ℕ) → field keep 13 16 ≡ 0xFFFF → field on 13 16 ≡ 0
       → view_by chip n (with_config (changed r.config keep on) r) ≡ record {
-        run = changed_bit (bit keep 31) (bit on 31) (bit r.config 31);
-        repeat = changed_bit (bit keep 29) (bit on 29) (bit r.config 29);
+        run = bit on 31 || (bit keep 31 && bit r.config 31);
+        repeat = bit on 29 || (bit keep 29 && bit r.config 29);
         pending = bit r.int_raw (timer_number n);
-        listening = cond chip.level (changed_bit (bit keep 11) (bit on 11) (bit r.config 11)) (bit r.int_ena (timer_number n));
+        listening = cond chip.level (bit on 11 || (bit keep 11 && bit r.config 11)) (bit r.int_ena (timer_number n));
         due = r.alarm_hi * 2 ^ 32 + r.alarm_lo;
         is_open = λ repeat. true;
         ticks = λ repeat us. ticks_at (ticks_per_second chip r.config) us;
@@ -44,18 +44,14 @@ repeat_view chip n r false = config_view chip n r _ _ refl refl
 level_view : (chip : Chip) (n : TimerNumber) (r : TimerWords) (on level : Bool) → chip.level ≡ level → view_by chip n (after_listen n level on r) ≡ with_listening on (view_by chip n r)
 level_view chip n r true true e = config_view chip n r _ _ refl refl ∙ rw e
 level_view chip n r false true e = config_view chip n r _ _ refl refl ∙ rw e
-level_view chip Zero r true false e = rw (e, bit_changed)
-level_view chip Zero r false false e = rw (e, bit_changed)
-level_view chip One r true false e = rw (e, bit_changed)
-level_view chip One r false false e = rw (e, bit_changed)
+level_view chip n r on false e = rw (e, bit_switched r.int_ena (timer_number n) (small n) on)
 
 armed_view : (chip : Chip) (n : TimerNumber) (r : TimerWords) (on : Bool) → view_by chip n (with_config (with_bits r.config 0x400 on) r) ≡ view_by chip n r
 armed_view chip n r true = config_view chip n r _ _ refl refl
 armed_view chip n r false = config_view chip n r _ _ refl refl
 
 cleared_view : (chip : Chip) (n : TimerNumber) (r : TimerWords) → view_by chip n (with_int_raw (without r.int_raw (2 ^ timer_number n)) r) ≡ with_pending false (view_by chip n r)
-cleared_view chip Zero r = rw bit_without
-cleared_view chip One r = rw bit_without
+cleared_view chip n r = rw bit_taken
 
 -- each call makes of the timer what is said of it
 pub call_view : (chip : Chip) (n : TimerNumber) (valid : Bool) (r : TimerWords) (a : Ask)
