@@ -13,10 +13,10 @@ ghost use Rattle.systimer.specs.Steps.{run_bit, own_bit, count_ops, period_ops, 
 use base::bits::is_set;
 use base::error::Error;
 use base::registers::{AlarmRegister, GroupRegister, SystemRegister};
+use base::two_words::TwoWords;
 use block::access::Block;
 use block::parts::AlarmHandle;
 use block::place::Place;
-use operation::words::TwoWords;
 use operation::{modify, read, switch, write};
 use time::{Duration, Instant};
 use timer::interface::Timer;
