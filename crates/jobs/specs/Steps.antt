@@ -3,11 +3,12 @@ use Rattle.std.specs.Prelude.{◌≡◌, [], Some, None, Option}
 use Rattle.std.specs.Option.{option_map}
 use Rattle.base.specs.Refusals.{Outcome, Refused}
 use Rattle.block.specs.Model.{Model}
+use Rattle.base.specs.declared.numbers.TimerNumber.{TimerNumber}
 use Rattle.base.specs.declared.numbers.TimerNumber.TheVariants.{Zero, One}
+use Rattle.base.specs.declared.numbers.AlarmNumber.{AlarmNumber}
 use Rattle.base.specs.declared.numbers.AlarmNumber.TheVariants.{Zero as Zero', One as One', Two as Two'}
 use Rattle.block.specs.declared.parts.Handles.{Handles}
-use Rattle.block.specs.declared.parts.TimerHandle.{TimerHandle}
-use Rattle.block.specs.declared.parts.AlarmHandle.{AlarmHandle}
+use Rattle.block.specs.declared.parts.Handle.{Handle}
 use Rattle.setting.specs.declared.kinds.Origins.{Origins}
 use Rattle.timg.specs.declared.group_timer.GroupTimer.{GroupTimer}
 use Rattle.systimer.specs.declared.alarm.Alarm.{Alarm as AlarmKind}
@@ -34,11 +35,11 @@ module _ {T A S : Type 0} (timers : Kind T) (alarms : Kind A) (b : Model S) wher
   Stepped x s (Alarm Two' call) o y t = Made alarms b x.alarm2 s call o y.alarm2 t × (y ≡ record x { alarm2 = y.alarm2 })
 
 -- The group timer of a handle.
-abbrev pub timer_of : TimerHandle → GroupTimer
+abbrev pub timer_of : Handle TimerNumber → GroupTimer
 timer_of h = record { handle = h }
 
 -- The alarm of a handle, its origin at first 0.
-abbrev pub alarm_of : AlarmHandle → AlarmKind
+abbrev pub alarm_of : Handle AlarmNumber → AlarmKind
 alarm_of h = record { handle = h; origin = 0 }
 
 -- The bench of a block's handles.
