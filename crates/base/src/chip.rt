@@ -23,7 +23,7 @@ pub struct Chip {
     /// the crystal that drives the system timer, in Hz
     pub crystal: u32,
     pub ratio: Ratio,
-    /// how many group timers there are
+    /// how many group timers there are; whoever gives another number than 1 or 2 gets no profile
     pub timers: u8,
     /// a timer listens by LEVEL_INT_EN of its CONFIG, and not by INT_ENA
     pub level: bool,

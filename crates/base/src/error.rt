@@ -45,6 +45,7 @@ impl fmt::Display for Error {
 impl std::error::Error for Error {}
 
 impl Error {
+    // A match, since variants that carry a value have no discriminants.
     pub fn number(&self) -> u8
         ensures { result ≡ number_of self.now }
     {

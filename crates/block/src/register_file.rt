@@ -41,7 +41,8 @@ impl RegisterFile {
         store(&mut self.words, at, word);
     }
 
-    // A put by a rule. For the proof, the words stay as many as there are places.
+    // A put by a rule: one match, since a table of closures would have to say anew what each is proved to do. For the
+    // proof, the words stay as many as there are places.
     fn put_by(&mut self, rule: PutRule, at: Place, word: u32)
         ensures chip { self.new.chip ≡ self.old.chip }
         ensures words { self.new.words ≡ by_rule self.old.chip rule self.old.words at.index word }

@@ -1,4 +1,5 @@
-// Figures that the documents give, each the contract of a function that works it out.
+// Figures that the documents give, each the contract of a function that works it out. A generic one would state the rule
+// again, and no figure.
 #![tactic(auto)]
 
 ghost use Rattle.std.specs.Prelude.{◌≡◌, ◌-◌, ◌*◌, ◌/◌, ◌^◌, Some, None};

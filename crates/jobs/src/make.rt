@@ -13,6 +13,7 @@ use timer::interface::Timer;
 pub fn make<K: Timer, B: Block>(handle: &mut K, block: &mut B, call: Call) -> Result<(), Error>
     ensures { Made K.Timer.kind B.Block.model handle.old block.old call (outcome result) handle.new block.new }
 {
+    // A call is data, read from a text: told apart here, once.
     match call {
         Call::Schedule(timeout) => OneShotTimer::new(handle, block).schedule(timeout)?,
         Call::DelayNanos(ns) => OneShotTimer::new(handle, block).delay_nanos(ns)?,

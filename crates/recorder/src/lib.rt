@@ -19,6 +19,7 @@ use block::words::Words;
 #[cfg(test)]
 mod tests;
 
+/// The list is lent, since there is no heap here.
 #[derive(Drop)]
 pub struct Recorder<'a> {
     file: RegisterFile,
@@ -69,6 +70,7 @@ impl Recorder<'_> {
     }
 }
 
+// Passed on by hand: a list that lies in a generic block's field is lost for its lender.
 impl<'a> Block for Recorder<'a> {
     ghost model = { recorder_model };
 

@@ -39,7 +39,7 @@ fn count_between(origin: u64, target: u64) -> u64
     target.wrapping_sub(origin) % COUNT_MODULUS
 }
 
-// The action in the two bits of WDTCONFIG0 from `low` on.
+// The action in the two bits of WDTCONFIG0 from `low` on. A `From` would drop bits, a `TryFrom` would never refuse.
 fn action_at(config: u32, low: u8) -> StageAction
     requires { low < 32 }
     ensures { result ≡ action_of (field config low 2) }

@@ -62,6 +62,7 @@ impl SimulatedBlock {
     }
 }
 
+// Passed on by hand, as by the recorder, with which it can't share a generic block.
 impl Block for SimulatedBlock {
     ghost model = { simulated_model };
 

@@ -37,6 +37,7 @@ impl Duration {
         Self(val)
     }
 
+    // A call for each unit, by the crate's names: one line each, which a generic call beneath would not shorten.
     pub fn from_millis(val: u64) -> Option<Self>
         ensures { option_map micros result ≡ fitting 64 (val * 1000) }
     {

@@ -30,6 +30,7 @@ impl Rate {
         Self(val)
     }
 
+    // A call for each unit, as a duration has.
     pub fn from_khz(val: u32) -> Option<Self>
         ensures { option_map hertz result ≡ fitting 32 (val * 1000) }
     {

@@ -56,6 +56,7 @@ impl LoggedBlock {
     }
 }
 
+// Passed on by hand, as by the recorder, with which it can't share a generic block.
 impl Block for LoggedBlock {
     ghost model = { logged_model };
 

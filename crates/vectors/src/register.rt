@@ -21,6 +21,7 @@ pub enum Register {
 #[derive(Clone, Copy)]
 pub struct NoRegister;
 
+// Back by matches: the enums lie in a crate that has no use for it.
 fn timer_register(offset: u64) -> Result<TimerRegister, NoRegister>
     ensures { elim result [ Ok x ↦ timer_offset x ≡ offset | Err _ ↦ 9 ≤ offset ] }
 {

@@ -58,6 +58,7 @@ impl FromStr for Departure {
 pub struct Tally {
     blocks: u64,
     alike: u64,
+    // an array, since a map could fail for want of memory
     departed: [u64; 4],
 }
 
