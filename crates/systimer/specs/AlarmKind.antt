@@ -31,11 +31,11 @@ left n m a = words_left n (found n m) a (words_of n m.words)
 
 -- The handle after a call.
 abbrev pub kept : Alarm → Meaning → Ask → Alarm
-kept h m a = record { handle = h.handle; origin = origin_left (found (number h) m) a h.origin }
+kept h m a = record h { origin = origin_left (found (number h) m) a h.origin }
 
 module _ (n : AlarmNumber) (m : Meaning) (a : Ask) (sized : length m.words ≡ place_count) where
   pub after_call : after m (accesses m (alarm_ops n (found n m) a)) ≡ replaced n m (left n m a)
-  after_call = ap (λ (ws : List ℕ). record { chip = m.chip; words = ws }) (call_words n (found n m) a m sized)
+  after_call = ap (λ (ws : List ℕ). record m { words = ws }) (call_words n (found n m) a m sized)
 
   kept_apart : (p : Part) → (p ≢ AlarmPart n) → Untouched p m (replaced n m (left n m a))
   kept_apart p d = others_kept n p (left n m a) m sized (call_shared n (found n m) a (words_of n m.words)) d
@@ -58,16 +58,11 @@ module _ (n : AlarmNumber) (m : Meaning) (a : Ask) (sized : length m.words ≡ p
   pub watchdog_untouched : Untouched Watchdog m (after m (accesses m (alarm_ops n (found n m) a)))
   watchdog_untouched = untouched Watchdog (λ e. cc)
 
-nothing : (k : ℕ) → 0 * k ≡ 0
-nothing k = omega arith
-
 pub no_ticks : (k : ℕ) (repeat : Bool) → ticks_at k repeat 0 ≡ Some 0
-no_ticks k true = ap (ticks_below (2 ^ 26)) (nothing k)
-no_ticks k false = ap (ticks_below (2 ^ 52)) (nothing k)
+no_ticks k repeat = grind arith
 
 pub opens : (m : Meaning) (repeat : Bool) → word m (group_place Valid) ≡ 7 → cond repeat true (can_read m) ≡ true
-opens m true e = refl
-opens m false e = ap (λ (w : ℕ). bit w 2) e
+opens m repeat e = grind arith
 
 -- The kind of the alarms: an accepted load without repeat sets the origin, and after a change of repeat due is what the new mode's words say.
 abbrev pub alarm_kind : Kind Alarm

@@ -16,9 +16,10 @@ use Rattle.base.specs.declared.numbers.AlarmNumber.{AlarmNumber}
 use Rattle.base.specs.declared.numbers.AlarmNumber.TheVariants.{Zero, One, Two}
 use Rattle.timer.specs.declared.part.Part.{Part}
 use Rattle.timer.specs.declared.part.Part.TheVariants.{Timer, Alarm, Watchdog}
-use Rattle.timer.specs.Parts.{word, own_words, own_bits, Untouched}
+use Rattle.timer.specs.Parts.{word, Untouched}
 use Rattle.timer.specs.Between.{Drifted}
 use Rattle.timer.specs.Views.{Drifts}
+use Rattle.timer.proofs.Parts.{alike}
 use Rattle.timer.specs.Kinds.{Ask, Start, Stop, Reset, AskRunning, AskNow, Load, Reload, Listen, Clear, AskPending}
 use Rattle.systimer.specs.Words.{AlarmWords, words_of, with_words}
 use Rattle.systimer.specs.Steps.{Found, words_left, after_load, run_bit, stall_bit, own_bit}
@@ -81,14 +82,11 @@ call_shared n x AskPending r = same_shared n r r refl refl refl
 
 -- A block with the alarm's words replaced.
 abbrev pub replaced : AlarmNumber → Meaning → AlarmWords → Meaning
-replaced n m r = record { chip = m.chip; words = with_words n m.words r }
+replaced n m r = record m { words = with_words n m.words r }
 
 -- Where the others' bits are the same, the words of alarm n are no other part's.
 abbrev Kept : AlarmNumber → Part → AlarmWords → Meaning → Type 0
 Kept n p r m = Shared n (words_of n m.words) r → (p ≢ Alarm n) → Untouched p m (replaced n m r)
-
-alike : {p : Part} {m k : Meaning} → k.chip ≡ m.chip → word k 29 ≡ word m 29 → own_words p k ≡ own_words p m → own_bits p k ≡ own_bits p m → Untouched p m k
-alike c v w b = record { chip = c; valid = v; words = w; bits = b }
 
 other : (q n : AlarmNumber) → (Alarm q ≢ Alarm n) → q ≢ n
 other q n d e = d (ap Alarm e)

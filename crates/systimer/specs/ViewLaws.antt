@@ -2,6 +2,7 @@
 use Rattle.std.specs.Prelude.{◌≡◌, ℕ, ◌+◌, ◌-◌, ◌*◌, ◌/◌, ◌%◌, ◌^◌, ◌<◌, Bool, true, false, cond, Some, None, bit_or, nat_lt, refl}
 use Rattle.std.proofs.Common.{ap, ◌∙◌, arith, ltb-true}
 use Rattle.std.specs.Int.Bits.{and_zero_r, or_zero_l}
+use Rattle.std.proofs.lemmas.Nat.{shr_split}
 use Rattle.base.specs.Bits.{bit, field}
 use Rattle.base.specs.Chips.{system_mhz}
 use Rattle.base.specs.Numbers.{alarm_number}
@@ -31,8 +32,7 @@ period_set w ticks fits =
 -- so many ticks on from the count, counted from there
 ticks_on : (count ticks : ℕ) → ticks < 2 ^ 52 → count_difference (count_after count ticks / 2 ^ 32 * 2 ^ 32 + count_after count ticks % 2 ^ 32) count ≡ ticks
 ticks_on count ticks fits =
-    let whole : count_after count ticks / 2 ^ 32 * 2 ^ 32 + count_after count ticks % 2 ^ 32 ≡ count_after count ticks = omega arith in
-    ap (λ (target : ℕ). count_difference target count) whole ∙ omega arith
+    ap (λ (target : ℕ). count_difference target count) (shr_split (count_after count ticks) 32) ∙ omega arith
 
 module _ (chip : Chip) (n : AlarmNumber) (count origin : ℕ) (r : AlarmWords) where
   -- where the ticks fit, a load sets the due

@@ -14,9 +14,10 @@ use Rattle.base.specs.declared.numbers.TimerNumber.TheVariants.{Zero, One}
 use Rattle.base.specs.declared.numbers.AlarmNumber.TheVariants.{Zero as Zero', One as One', Two as Two'}
 use Rattle.timer.specs.declared.part.Part.{Part}
 use Rattle.timer.specs.declared.part.Part.TheVariants.{Timer, Alarm, Watchdog}
-use Rattle.timer.specs.Parts.{word, own_words, own_bits, Untouched}
+use Rattle.timer.specs.Parts.{word, Untouched}
 use Rattle.timer.specs.Between.{Drifted}
 use Rattle.timer.specs.Views.{Drifts}
+use Rattle.timer.proofs.Parts.{alike}
 use Rattle.timer.specs.Kinds.{Ask, Start, Stop, Reset, AskRunning, AskNow, Load, Reload, Listen, Clear, AskPending}
 use Rattle.timg.specs.Rates.{ticks_per_second, ticks_at}
 use Rattle.timg.specs.Words.{TimerWords, words_of, with_words}
@@ -60,14 +61,11 @@ call_shared n x AskPending r = alike_shared n r _ refl refl
 
 -- A block with the timer's words replaced.
 abbrev pub replaced : TimerNumber → Meaning → TimerWords → Meaning
-replaced n m r = record { chip = m.chip; words = with_words n m.words r }
+replaced n m r = record m { words = with_words n m.words r }
 
 -- Where the others' bits are the same, the words of timer n are no other part's.
 abbrev Kept : TimerNumber → Part → TimerWords → Meaning → Type 0
 Kept n p r m = Shared n (words_of n m.words) r → (p ≢ Timer n) → Untouched p m (replaced n m r)
-
-alike : {p : Part} {m k : Meaning} → k.chip ≡ m.chip → word k 29 ≡ word m 29 → own_words p k ≡ own_words p m → own_bits p k ≡ own_bits p m → Untouched p m k
-alike c v w b = record { chip = c; valid = v; words = w; bits = b }
 
 other : (q n : TimerNumber) → (Timer q ≢ Timer n) → q ≢ n
 other q n d e = d (ap Timer e)
