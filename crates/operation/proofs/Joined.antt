@@ -1,6 +1,6 @@
 -- Operations of any block, put together.
-use Rattle.std.proofs.Common.{◌≡◌, ℕ, List, [], ◌∷◌, ◌++◌, get_or, sym, refl, ap, ◌∙◌, subst, append_assoc}
-use Rattle.block.specs.Accesses.{Access, Get, Put, Meaning, words_after, after}
+use Rattle.std.proofs.Common.{◌≡◌, ℕ, List, [], ◌∷◌, ◌++◌, get_or, refl, ap, ◌∙◌, subst, append_assoc}
+use Rattle.block.specs.Accesses.{Get, Put, Meaning, words_after, after}
 use Rattle.block.specs.Files.{after-++, after_none}
 use Rattle.block.specs.Model.{Model}
 use Rattle.block.specs.Puts.{rule_of, by_rule, stored}

@@ -1,5 +1,5 @@
 -- The alarm as a kind of timer: what it is and does is in the pages before; what follows that is proof.
-use Rattle.std.specs.Prelude.{◌≡◌, ℕ, ◌*◌, ◌^◌, Bool, true, false, cond, List, length, Some, ◌≢◌, refl}
+use Rattle.std.specs.Prelude.{◌≡◌, ℕ, Bool, true, cond, List, length, Some, ◌≢◌, refl}
 use Rattle.std.proofs.Common.{sym, ap, subst, ◌∙◌, arith}
 use Rattle.base.specs.Bits.{bit}
 use Rattle.base.specs.Chips.{system_mhz}
@@ -12,7 +12,7 @@ use Rattle.timer.specs.declared.part.Part.{Part}
 use Rattle.timer.specs.declared.part.Part.TheVariants.{Alarm as AlarmPart, Watchdog}
 use Rattle.timer.specs.Parts.{word, Untouched}
 use Rattle.timer.specs.Kinds.{Kind, Ask, effect}
-use Rattle.systimer.specs.Rates.{ticks_below, ticks_at}
+use Rattle.systimer.specs.Rates.{ticks_at}
 use Rattle.systimer.specs.Words.{AlarmWords, words_of, with_words}
 use Rattle.systimer.specs.Steps.{alarm_ops, words_left, origin_left}
 use Rattle.systimer.specs.Views.{view_by, alarm_view, alarm_reads, found, due_of, can_read, count_of}

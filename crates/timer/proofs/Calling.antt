@@ -1,6 +1,6 @@
 -- Calls of any kind, from their accesses.
-use Rattle.std.proofs.Common.{◌≡◌, List, [], ◌∷◌, ◌++◌, sym, refl, ap, ◌∙◌, subst, append_assoc}
-use Rattle.block.specs.Accesses.{Access, Meaning, after}
+use Rattle.std.proofs.Common.{◌≡◌, List, [], ◌∷◌, ◌++◌, refl, subst, append_assoc}
+use Rattle.block.specs.Accesses.{Meaning, after}
 use Rattle.block.specs.Model.{Model}
 use Rattle.timer.specs.Kinds.{Kind, Ask}
 use Rattle.timer.specs.Calls.{meaning_after, handle_after, accesses_of, Called, Asked}

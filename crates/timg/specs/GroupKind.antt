@@ -1,5 +1,5 @@
 -- The group timer as a kind of timer: what it is and does is in the pages before; what follows that is proof.
-use Rattle.std.specs.Prelude.{◌≡◌, ℕ, ◌*◌, ◌/◌, ◌^◌, cond, List, length, Some, None, nat_lt, ◌≢◌, refl}
+use Rattle.std.specs.Prelude.{◌≡◌, ℕ, List, length, Some, ◌≢◌, refl}
 use Rattle.std.proofs.Common.{sym, ap, subst, ◌∙◌, arith}
 use Rattle.block.specs.Accesses.{Meaning, after}
 use Rattle.block.specs.Places.{place_count}

@@ -1,6 +1,6 @@
 -- What a call makes of a group timer. These are proofs, with nothing in them to believe.
-use Rattle.std.specs.Prelude.{◌≡◌, ℕ, ◌+◌, ◌*◌, ◌/◌, ◌%◌, ◌^◌, Bool, true, false, cond, ◌&&◌, ◌||◌, Some, None, Option, refl}
-use Rattle.std.proofs.Common.{ap, ◌∙◌, arith}
+use Rattle.std.specs.Prelude.{◌≡◌, ℕ, ◌+◌, ◌*◌, ◌^◌, Bool, true, false, cond, ◌&&◌, ◌||◌, Some, None, Option, refl}
+use Rattle.std.proofs.Common.{◌∙◌}
 use Rattle.std.proofs.lemmas.Nat.{shr_split}
 use Rattle.base.specs.Bits.{bit, field}
 use Rattle.base.specs.Numbers.{timer_number}
@@ -15,7 +15,7 @@ use Rattle.timg.specs.Rates.{ticks_per_second, ticks_at}
 use Rattle.timg.specs.Words.{TimerWords, with_config, with_int_raw}
 use Rattle.timg.specs.Steps.{words_left, after_load, after_listen, stays_armed}
 use Rattle.timg.specs.Views.{view_by}
-use Rattle.timg.specs.PartLaws.{small}
+use Rattle.timg.specs.PartLaws.{below_32}
 
 module _ (chip : Chip) (n : TimerNumber) where
   -- CONFIG changed in its bits, and not in DIVIDER
@@ -39,7 +39,7 @@ repeat_view chip n r false = config_view chip n r _ _ refl refl
 level_view : (chip : Chip) (n : TimerNumber) (r : TimerWords) (on level : Bool) → chip.level ≡ level → view_by chip n (after_listen n level on r) ≡ with_listening on (view_by chip n r)
 level_view chip n r true true e = config_view chip n r _ _ refl refl ∙ rw e
 level_view chip n r false true e = config_view chip n r _ _ refl refl ∙ rw e
-level_view chip n r on false e = rw (e, bit_switched r.int_ena (timer_number n) (small n) on)
+level_view chip n r on false e = rw (e, bit_switched r.int_ena (timer_number n) (below_32 n) on)
 
 armed_view : (chip : Chip) (n : TimerNumber) (r : TimerWords) (on : Bool) → view_by chip n (with_config (with_bits r.config 0x400 on) r) ≡ view_by chip n r
 armed_view chip n r true = config_view chip n r _ _ refl refl
