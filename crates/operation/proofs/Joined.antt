@@ -1,6 +1,6 @@
 -- Operations of any block, put together.
-use Rattle.std.proofs.Common.{◌≡◌, ℕ, List, [], ◌∷◌, ◌++◌, get_or, sym, refl, ap, ◌∙◌, subst, append_assoc}
-use Rattle.block.specs.Accesses.{Access, Get, Put, Meaning, words_after, after}
+use Rattle.std.proofs.Common.{◌≡◌, ℕ, List, [], ◌∷◌, ◌++◌, get_or, refl, ap, ◌∙◌, subst, append_assoc}
+use Rattle.block.specs.Accesses.{Get, Put, Meaning, words_after, after}
 use Rattle.block.specs.Files.{after-++, after_none}
 use Rattle.block.specs.Model.{Model}
 use Rattle.block.specs.Puts.{rule_of, by_rule, stored}
@@ -14,19 +14,15 @@ unfolding accesses
 accesses-++ m [] ps = ap (λ (x : Meaning). accesses x ps) (after_none m)
 accesses-++ m (o ∷ os) ps =
     let n : Meaning = after m (accesses_of m o) in
-    ap (λ (l : List Access). accesses_of m o ++ l) (accesses-++ n os ps)
-    ∙ ap (λ (x : Meaning). accesses_of m o ++ (accesses n os ++ accesses x ps)) (after-++ m n (after n (accesses n os)) (accesses_of m o) (accesses n os) refl refl)
-    ∙ sym (append_assoc (accesses_of m o) (accesses n os) _)
+    let both = after-++ m n (after n (accesses n os)) (accesses_of m o) (accesses n os) refl refl in
+    rw (append_assoc, accesses-++ n os ps, ← both)
 
 infixr 10 ◌>>◌
 -- operations, and then more
 pub ◌>>◌ : {S : Type 0} {b : Model S} {s t u : S} {os ps : List Op} → Performed b s os t → Performed b t ps u → Performed b s (os ++ ps) u
 ◌>>◌ {S} {b} {s} {t} {u} {os} {ps} h k =
     let left : b.means t ≡ after (b.means s) (accesses (b.means s) os) = b.leaves s t _ h.did in
-    let k' : b.did t (accesses (after (b.means s) (accesses (b.means s) os)) ps) u = subst (λ (x : Meaning). b.did t (accesses x ps) u) left k.did in
-    record {
-      did = subst (λ (l : List Access). b.did s l u) (sym (accesses-++ (b.means s) os ps)) (b.more s t u _ _ h.did k');
-    }
+    record { did = rw accesses-++ (b.more s t u _ _ h.did (rw left at k.did)) }
 
 -- the same operations under another name
 pub performed_as : {S : Type 0} {b : Model S} {s t : S} {os ps : List Op} → Performed b s os t → os ≡ ps → Performed b s ps t
@@ -57,10 +53,10 @@ get_keeps b s t at h = b.leaves s t _ h
 
 -- a write does what its place's rule says
 pub put_by : {S : Type 0} {b : Model S} {s t : S} {at w : ℕ} (r : PutRule) → rule_of at ≡ r → Performed b s (Write at w ∷ []) t
-    → b.means t ≡ record { chip = (b.means s).chip; words = by_rule (b.means s).chip r (b.means s).words at w }
+    → b.means t ≡ record (b.means s) { words = by_rule (b.means s).chip r (b.means s).words at w }
 unfolding accesses accesses_of words_after stored
 put_by {S} {b} {s} {t} {at} {w} r e h =
-    means_after h ∙ ap (λ (x : PutRule). record { chip = (b.means s).chip; words = by_rule (b.means s).chip x (b.means s).words at w }) e
+    means_after h ∙ ap (λ (x : PutRule). record (b.means s) { words = by_rule (b.means s).chip x (b.means s).words at w }) e
 
 -- so one whose puts are ignored changes nothing
 pub ignored : {S : Type 0} {b : Model S} {s t : S} {at w : ℕ} → rule_of at ≡ Ignores → Performed b s (Write at w ∷ []) t → b.means t ≡ b.means s

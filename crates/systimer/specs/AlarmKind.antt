@@ -1,5 +1,5 @@
 -- The alarm as a kind of timer: what it is and does is in the pages before; what follows that is proof.
-use Rattle.std.specs.Prelude.{◌≡◌, ℕ, ◌*◌, ◌^◌, Bool, true, false, cond, List, length, Some, ◌≢◌, refl}
+use Rattle.std.specs.Prelude.{◌≡◌, ℕ, Bool, true, cond, List, length, Some, ◌≢◌, refl}
 use Rattle.std.proofs.Common.{sym, ap, subst, ◌∙◌, arith}
 use Rattle.base.specs.Bits.{bit}
 use Rattle.base.specs.Chips.{system_mhz}
@@ -12,7 +12,7 @@ use Rattle.timer.specs.declared.part.Part.{Part}
 use Rattle.timer.specs.declared.part.Part.TheVariants.{Alarm as AlarmPart, Watchdog}
 use Rattle.timer.specs.Parts.{word, Untouched}
 use Rattle.timer.specs.Kinds.{Kind, Ask, effect}
-use Rattle.systimer.specs.Rates.{ticks_below, ticks_at}
+use Rattle.systimer.specs.Rates.{ticks_at}
 use Rattle.systimer.specs.Words.{AlarmWords, words_of, with_words}
 use Rattle.systimer.specs.Steps.{alarm_ops, words_left, origin_left}
 use Rattle.systimer.specs.Views.{view_by, alarm_view, alarm_reads, found, due_of, can_read, count_of}
@@ -31,11 +31,11 @@ left n m a = words_left n (found n m) a (words_of n m.words)
 
 -- The handle after a call.
 abbrev pub kept : Alarm → Meaning → Ask → Alarm
-kept h m a = record { handle = h.handle; origin = origin_left (found (number h) m) a h.origin }
+kept h m a = record h { origin = origin_left (found (number h) m) a h.origin }
 
 module _ (n : AlarmNumber) (m : Meaning) (a : Ask) (sized : length m.words ≡ place_count) where
   pub after_call : after m (accesses m (alarm_ops n (found n m) a)) ≡ replaced n m (left n m a)
-  after_call = ap (λ (ws : List ℕ). record { chip = m.chip; words = ws }) (call_words n (found n m) a m sized)
+  after_call = ap (λ (ws : List ℕ). record m { words = ws }) (call_words n (found n m) a m sized)
 
   kept_apart : (p : Part) → (p ≢ AlarmPart n) → Untouched p m (replaced n m (left n m a))
   kept_apart p d = others_kept n p (left n m a) m sized (call_shared n (found n m) a (words_of n m.words)) d
@@ -58,16 +58,11 @@ module _ (n : AlarmNumber) (m : Meaning) (a : Ask) (sized : length m.words ≡ p
   pub watchdog_untouched : Untouched Watchdog m (after m (accesses m (alarm_ops n (found n m) a)))
   watchdog_untouched = untouched Watchdog (λ e. cc)
 
-nothing : (k : ℕ) → 0 * k ≡ 0
-nothing k = omega arith
-
 pub no_ticks : (k : ℕ) (repeat : Bool) → ticks_at k repeat 0 ≡ Some 0
-no_ticks k true = ap (ticks_below (2 ^ 26)) (nothing k)
-no_ticks k false = ap (ticks_below (2 ^ 52)) (nothing k)
+no_ticks k repeat = grind arith
 
 pub opens : (m : Meaning) (repeat : Bool) → word m (group_place Valid) ≡ 7 → cond repeat true (can_read m) ≡ true
-opens m true e = refl
-opens m false e = ap (λ (w : ℕ). bit w 2) e
+opens m repeat e = grind arith
 
 -- The kind of the alarms: an accepted load without repeat sets the origin, and after a change of repeat due is what the new mode's words say.
 abbrev pub alarm_kind : Kind Alarm

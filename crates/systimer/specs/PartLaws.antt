@@ -6,7 +6,6 @@ use Rattle.base.specs.Numbers.{alarm_number}
 use Rattle.base.specs.Chips.{Valid as WithinLimits}
 use Rattle.block.specs.Accesses.{Meaning, new_block}
 use Rattle.block.specs.Places.{place_count}
-use Rattle.block.specs.Puts.{without}
 use Rattle.operation.specs.Operations.{with_bits}
 use Rattle.operation.proofs.Masks.{bit_unswitched, bit_untaken, bit_same}
 use Rattle.operation.proofs.Written.{written, at_written}
@@ -16,12 +15,13 @@ use Rattle.base.specs.declared.numbers.AlarmNumber.{AlarmNumber}
 use Rattle.base.specs.declared.numbers.AlarmNumber.TheVariants.{Zero, One, Two}
 use Rattle.timer.specs.declared.part.Part.{Part}
 use Rattle.timer.specs.declared.part.Part.TheVariants.{Timer, Alarm, Watchdog}
-use Rattle.timer.specs.Parts.{word, own_words, own_bits, Untouched}
+use Rattle.timer.specs.Parts.{word, Untouched}
 use Rattle.timer.specs.Between.{Drifted}
 use Rattle.timer.specs.Views.{Drifts}
+use Rattle.timer.proofs.Parts.{alike}
 use Rattle.timer.specs.Kinds.{Ask, Start, Stop, Reset, AskRunning, AskNow, Load, Reload, Listen, Clear, AskPending}
 use Rattle.systimer.specs.Words.{AlarmWords, words_of, with_words}
-use Rattle.systimer.specs.Steps.{Found, words_left, after_load, run_bit, stall_bit, own_bit}
+use Rattle.systimer.specs.Steps.{Found, words_left, after_load, run_bit, stall_bit}
 use Rattle.systimer.specs.Views.{alarm_view}
 
 -- The bits of the shared words that the alarms other than n have are the same.
@@ -30,32 +30,26 @@ pub record Shared (n : AlarmNumber) (r s : AlarmWords) : Type 0 where
   pub ena : (q : AlarmNumber) → (q ≢ n) → bit s.int_ena (alarm_number q) ≡ bit r.int_ena (alarm_number q)
   pub raw : (q : AlarmNumber) → (q ≢ n) → bit s.int_raw (alarm_number q) ≡ bit r.int_raw (alarm_number q)
 
-small : (n : AlarmNumber) → alarm_number n < 3
-small n = grind arith
+below_3 : (n : AlarmNumber) → alarm_number n < 3
+below_3 n = grind arith
 
-pub below : (n : AlarmNumber) → alarm_number n < 32
-below n = omega (arith, small n)
+pub below_32 : (n : AlarmNumber) → alarm_number n < 32
+below_32 n = omega (arith, below_3 n)
 
-pub run_below : (n : AlarmNumber) → 24 - alarm_number n < 32
-run_below n = omega arith
+pub run_below_32 : (n : AlarmNumber) → 24 - alarm_number n < 32
+run_below_32 n = omega arith
 
 apart : (n q : AlarmNumber) → (q ≢ n) → alarm_number q ≢ alarm_number n
 apart n q d = grind arith
 
 run_apart : (n q : AlarmNumber) → (q ≢ n) → 24 - alarm_number q ≢ 24 - alarm_number n
-run_apart n q d = grind (arith, apart n q d, small n, small q)
+run_apart n q d = grind (arith, apart n q d, below_3 n, below_3 q)
 
 run_other : (w : ℕ) (n q : AlarmNumber) (on : Bool) → (q ≢ n) → bit (with_bits w (run_bit n) on) (24 - alarm_number q) ≡ bit w (24 - alarm_number q)
-run_other w n q on d = bit_unswitched w (24 - alarm_number n) (run_below n) on (24 - alarm_number q) (run_below q) (run_apart n q d)
+run_other w n q on d = bit_unswitched w (24 - alarm_number n) (run_below_32 n) on (24 - alarm_number q) (run_below_32 q) (run_apart n q d)
 
 pub stall_other : (w : ℕ) (q : AlarmNumber) → bit (with_bits w stall_bit false) (24 - alarm_number q) ≡ bit w (24 - alarm_number q)
-stall_other w q = bit_unswitched w 28 (omega arith) false (24 - alarm_number q) (run_below q) (omega arith)
-
-ena_other : (w : ℕ) (n q : AlarmNumber) (on : Bool) → (q ≢ n) → bit (with_bits w (own_bit n) on) (alarm_number q) ≡ bit w (alarm_number q)
-ena_other w n q on d = bit_unswitched w (alarm_number n) (below n) on (alarm_number q) (below q) (apart n q d)
-
-raw_other : (w : ℕ) (n q : AlarmNumber) → (q ≢ n) → bit (without w (own_bit n)) (alarm_number q) ≡ bit w (alarm_number q)
-raw_other w n q d = bit_untaken w (alarm_number n) (alarm_number q) (apart n q d)
+stall_other w q = bit_unswitched w 28 (omega arith) false (24 - alarm_number q) (run_below_32 q) (omega arith)
 
 same_shared : (n : AlarmNumber) (r s : AlarmWords) → s.conf ≡ r.conf → s.int_ena ≡ r.int_ena → s.int_raw ≡ r.int_raw → Shared n r s
 same_shared n r s a b c = record { conf = λ q d. rw a; ena = λ q d. rw b; raw = λ q d. rw c }
@@ -75,20 +69,17 @@ call_shared n x AskRunning r = same_shared n r r refl refl refl
 call_shared n x AskNow r = same_shared n r r refl refl refl
 call_shared n x (Load us) r = load_shared n r (x.ticks us) x.repeat x.valid x.count
 call_shared n x (Reload on) r = same_shared n r _ refl refl refl
-call_shared n x (Listen on) r = record { conf = λ q d. refl; ena = λ q d. ena_other r.int_ena n q on d; raw = λ q d. refl }
-call_shared n x Clear r = record { conf = λ q d. refl; ena = λ q d. refl; raw = λ q d. raw_other r.int_raw n q d }
+call_shared n x (Listen on) r = record { conf = λ q d. refl; ena = λ q d. bit_unswitched r.int_ena (alarm_number n) (below_32 n) on (alarm_number q) (below_32 q) (apart n q d); raw = λ q d. refl }
+call_shared n x Clear r = record { conf = λ q d. refl; ena = λ q d. refl; raw = λ q d. bit_untaken r.int_raw (alarm_number n) (alarm_number q) (apart n q d) }
 call_shared n x AskPending r = same_shared n r r refl refl refl
 
 -- A block with the alarm's words replaced.
 abbrev pub replaced : AlarmNumber → Meaning → AlarmWords → Meaning
-replaced n m r = record { chip = m.chip; words = with_words n m.words r }
+replaced n m r = record m { words = with_words n m.words r }
 
 -- Where the others' bits are the same, the words of alarm n are no other part's.
 abbrev Kept : AlarmNumber → Part → AlarmWords → Meaning → Type 0
 Kept n p r m = Shared n (words_of n m.words) r → (p ≢ Alarm n) → Untouched p m (replaced n m r)
-
-alike : {p : Part} {m k : Meaning} → k.chip ≡ m.chip → word k 29 ≡ word m 29 → own_words p k ≡ own_words p m → own_bits p k ≡ own_bits p m → Untouched p m k
-alike c v w b = record { chip = c; valid = v; words = w; bits = b }
 
 other : (q n : AlarmNumber) → (Alarm q ≢ Alarm n) → q ≢ n
 other q n d e = d (ap Alarm e)

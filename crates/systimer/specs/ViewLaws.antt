@@ -2,6 +2,7 @@
 use Rattle.std.specs.Prelude.{◌≡◌, ℕ, ◌+◌, ◌-◌, ◌*◌, ◌/◌, ◌%◌, ◌^◌, ◌<◌, Bool, true, false, cond, Some, None, bit_or, nat_lt, refl}
 use Rattle.std.proofs.Common.{ap, ◌∙◌, arith, ltb-true}
 use Rattle.std.specs.Int.Bits.{and_zero_r, or_zero_l}
+use Rattle.std.proofs.lemmas.Nat.{shr_split}
 use Rattle.base.specs.Bits.{bit, field}
 use Rattle.base.specs.Chips.{system_mhz}
 use Rattle.base.specs.Numbers.{alarm_number}
@@ -17,7 +18,7 @@ use Rattle.systimer.specs.Rates.{tick_limit, ticks_at}
 use Rattle.systimer.specs.Words.{AlarmWords, with_target_conf, with_conf, with_int_ena, with_int_raw}
 use Rattle.systimer.specs.Steps.{Found, words_left, origin_left, after_load, origin_after, count_after, run_bit, stall_bit, period_mode, period_bits, own_bit}
 use Rattle.systimer.specs.Views.{view_by, due_of}
-use Rattle.systimer.specs.PartLaws.{below, run_below, stall_other}
+use Rattle.systimer.specs.PartLaws.{below_32, run_below_32, stall_other}
 
 -- a period that is set is the period
 period_set : (w ticks : ℕ) → ticks < 2 ^ 26 → field (with_bits (changed w (all_but period_bits) ticks) period_mode true) 0 26 ≡ ticks
@@ -31,8 +32,7 @@ period_set w ticks fits =
 -- so many ticks on from the count, counted from there
 ticks_on : (count ticks : ℕ) → ticks < 2 ^ 52 → count_difference (count_after count ticks / 2 ^ 32 * 2 ^ 32 + count_after count ticks % 2 ^ 32) count ≡ ticks
 ticks_on count ticks fits =
-    let whole : count_after count ticks / 2 ^ 32 * 2 ^ 32 + count_after count ticks % 2 ^ 32 ≡ count_after count ticks = omega arith in
-    ap (λ (target : ℕ). count_difference target count) whole ∙ omega arith
+    ap (λ (target : ℕ). count_difference target count) (shr_split (count_after count ticks) 32) ∙ omega arith
 
 module _ (chip : Chip) (n : AlarmNumber) (count origin : ℕ) (r : AlarmWords) where
   -- where the ticks fit, a load sets the due
@@ -60,7 +60,7 @@ module _ (chip : Chip) (n : AlarmNumber) (count origin : ℕ) (r : AlarmWords) w
 
 module _ (chip : Chip) (valid : Bool) (origin : ℕ) (r : AlarmWords) where
   run_view : (n : AlarmNumber) (on : Bool) → view_by chip n valid origin (with_conf (with_bits r.conf (run_bit n) on) r) ≡ with_run on (view_by chip n valid origin r)
-  run_view n on = rw (bit_switched r.conf (24 - alarm_number n) (run_below n) on)
+  run_view n on = rw (bit_switched r.conf (24 - alarm_number n) (run_below_32 n) on)
 
   reset_view : (n : AlarmNumber) → view_by chip n valid origin (with_conf (with_bits r.conf stall_bit false) r) ≡ view_by chip n valid origin r
   reset_view n = rw (stall_other r.conf n)
@@ -70,7 +70,7 @@ module _ (chip : Chip) (valid : Bool) (origin : ℕ) (r : AlarmWords) where
   repeat_view n false = rw (bit_changed r.target_conf (all_but period_mode) 0 30)
 
   listen_view : (n : AlarmNumber) (on : Bool) → view_by chip n valid origin (with_int_ena (with_bits r.int_ena (own_bit n) on) r) ≡ with_listening on (view_by chip n valid origin r)
-  listen_view n on = rw (bit_switched r.int_ena (alarm_number n) (below n) on)
+  listen_view n on = rw (bit_switched r.int_ena (alarm_number n) (below_32 n) on)
 
   clear_view : (n : AlarmNumber) → view_by chip n valid origin (with_int_raw (without r.int_raw (own_bit n)) r) ≡ with_pending false (view_by chip n valid origin r)
   clear_view n = rw bit_taken

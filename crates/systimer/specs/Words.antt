@@ -34,20 +34,20 @@ with_words n ws r =
 
 -- The same words with another target.
 abbrev pub with_target : ℕ → ℕ → AlarmWords → AlarmWords
-with_target high low r = record { target_hi = high; target_lo = low; target_conf = r.target_conf; conf = r.conf; int_ena = r.int_ena; int_raw = r.int_raw }
+with_target high low r = record r { target_hi = high; target_lo = low }
 
 -- The same words with another TARGET_CONF.
 abbrev pub with_target_conf : ℕ → AlarmWords → AlarmWords
-with_target_conf w r = record { target_hi = r.target_hi; target_lo = r.target_lo; target_conf = w; conf = r.conf; int_ena = r.int_ena; int_raw = r.int_raw }
+with_target_conf w r = record r { target_conf = w }
 
 -- The same words with another CONF.
 abbrev pub with_conf : ℕ → AlarmWords → AlarmWords
-with_conf w r = record { target_hi = r.target_hi; target_lo = r.target_lo; target_conf = r.target_conf; conf = w; int_ena = r.int_ena; int_raw = r.int_raw }
+with_conf w r = record r { conf = w }
 
 -- The same words with another SYS_INT_ENA.
 abbrev pub with_int_ena : ℕ → AlarmWords → AlarmWords
-with_int_ena w r = record { target_hi = r.target_hi; target_lo = r.target_lo; target_conf = r.target_conf; conf = r.conf; int_ena = w; int_raw = r.int_raw }
+with_int_ena w r = record r { int_ena = w }
 
 -- The same words with another SYS_INT_RAW.
 abbrev pub with_int_raw : ℕ → AlarmWords → AlarmWords
-with_int_raw w r = record { target_hi = r.target_hi; target_lo = r.target_lo; target_conf = r.target_conf; conf = r.conf; int_ena = r.int_ena; int_raw = w }
+with_int_raw w r = record r { int_raw = w }

@@ -1,6 +1,6 @@
 -- Calls of any kind, from their accesses.
-use Rattle.std.proofs.Common.{◌≡◌, List, [], ◌∷◌, ◌++◌, sym, refl, ap, ◌∙◌, subst, append_assoc}
-use Rattle.block.specs.Accesses.{Access, Meaning, after}
+use Rattle.std.proofs.Common.{◌≡◌, List, [], ◌∷◌, ◌++◌, refl, subst, append_assoc}
+use Rattle.block.specs.Accesses.{Meaning, after}
 use Rattle.block.specs.Model.{Model}
 use Rattle.timer.specs.Kinds.{Kind, Ask}
 use Rattle.timer.specs.Calls.{meaning_after, handle_after, accesses_of, Called, Asked}
@@ -9,13 +9,12 @@ module _ {K S : Type 0} (kind : Kind K) (b : Model S) where
   -- what a call did and what it kept decide all that is said of it
   pub called : {h g : K} {s t : S} (a : Ask) → b.did s (kind.does h (b.means s) a) t → g ≡ kind.keeps h (b.means s) a → Called kind b h s a g t
   called {h} {g} {s} {t} a did kept =
-      let m : Meaning = b.means s in
-      let left : b.means t ≡ after m (kind.does h m a) = b.leaves s t _ did in
+      let left : b.means t ≡ after (b.means s) (kind.does h (b.means s) a) = b.leaves s t _ did in
       record {
         did = did;
         handle = kept;
-        view = ap (λ (x : K). kind.view x (b.means t)) kept ∙ ap (kind.view (kind.keeps h m a)) left ∙ kind.shows h m a (b.sized s);
-        words = ap (λ (x : Meaning). x.words) left ∙ kind.words_left h m a (b.sized s);
+        view = rw (kept, left) (kind.shows h (b.means s) a (b.sized s));
+        words = rw left (kind.words_left h (b.means s) a (b.sized s));
       }
 
   pub asked_nothing : {h : K} {s : S} → Asked kind b h s [] h s
@@ -26,14 +25,11 @@ module _ {K S : Type 0} (kind : Kind K) (b : Model S) where
   pub asked_then : {h g k : K} {s t u : S} {a : Ask} {asks : List Ask} → Called kind b h s a g t → Asked kind b g t asks k u → Asked kind b h s (a ∷ asks) k u
   unfolding meaning_after handle_after accesses_of
   asked_then {h} {g} {k} {s} {t} {u} {a} {asks} first rest =
-      let m : Meaning = b.means s in
-      let n : Meaning = after m (kind.does h m a) in
-      let left : b.means t ≡ n = b.leaves s t _ first.did in
-      let h' : K = kind.keeps h m a in
+      let left : b.means t ≡ after (b.means s) (kind.does h (b.means s) a) = b.leaves s t _ first.did in
       record {
-        did = b.more s t u _ _ first.did (subst (λ (x : Meaning). b.did t (accesses_of kind h' x asks) u) left (subst (λ (x : K). b.did t (accesses_of kind x (b.means t) asks) u) first.handle rest.did));
-        handle = rest.handle ∙ ap (λ (x : K). handle_after kind x (b.means t) asks) first.handle ∙ ap (λ (x : Meaning). handle_after kind h' x asks) left;
-        meaning = rest.meaning ∙ ap (λ (x : K). meaning_after kind x (b.means t) asks) first.handle ∙ ap (λ (x : Meaning). meaning_after kind h' x asks) left;
+        did = b.more s t u _ _ first.did (rw (first.handle, left) at rest.did);
+        handle = rw (rest.handle, first.handle, left);
+        meaning = rw (rest.meaning, first.handle, left);
       }
 
   -- one call and no other
@@ -55,21 +51,15 @@ module _ {K : Type 0} (kind : Kind K) where
       → accesses_of kind h m (xs ++ ys) ≡ accesses_of kind h m xs ++ accesses_of kind (handle_after kind h m xs) (meaning_after kind h m xs) ys
   unfolding meaning_after handle_after accesses_of
   accesses-++ h m [] ys = refl
-  accesses-++ h m (x ∷ xs) ys =
-      ap (λ (l : List Access). kind.does h m x ++ l) (accesses-++ (kind.keeps h m x) (after m (kind.does h m x)) xs ys)
-      ∙ sym (append_assoc (kind.does h m x) _ _)
+  accesses-++ h m (x ∷ xs) ys = rw (append_assoc, accesses-++ (kind.keeps h m x) (after m (kind.does h m x)) xs ys)
 
   -- calls, and then more calls
   pub asked-++ : {S : Type 0} (b : Model S) {h g k : K} {s t u : S} {xs ys : List Ask} → Asked kind b h s xs g t → Asked kind b g t ys k u → Asked kind b h s (xs ++ ys) k u
-  asked-++ b {h} {g} {k} {s} {t} {u} {xs} {ys} first rest =
-      let m : Meaning = b.means s in
-      let h' : K = handle_after kind h m xs in
-      let same : accesses_of kind g (b.means t) ys ≡ accesses_of kind h' (meaning_after kind h m xs) ys = rw (first.handle, first.meaning) in
-      record {
-        did = subst (λ (l : List Access). b.did s l u) (sym (accesses-++ h m xs ys)) (b.more s t u _ _ first.did (subst (λ (l : List Access). b.did t l u) same rest.did));
-        handle = rest.handle ∙ ap (λ (x : K). handle_after kind x (b.means t) ys) first.handle ∙ ap (λ (x : Meaning). handle_after kind h' x ys) first.meaning ∙ sym (handle-++ h m xs ys);
-        meaning = rest.meaning ∙ ap (λ (x : K). meaning_after kind x (b.means t) ys) first.handle ∙ ap (λ (x : Meaning). meaning_after kind h' x ys) first.meaning ∙ sym (meaning-++ h m xs ys);
-      }
+  asked-++ b {h} {g} {k} {s} {t} {u} {xs} {ys} first rest = record {
+    did = rw accesses-++ (b.more s t u _ _ first.did (rw (first.handle, first.meaning) at rest.did));
+    handle = rw (handle-++, rest.handle, first.handle, first.meaning);
+    meaning = rw (meaning-++, rest.meaning, first.handle, first.meaning);
+  }
 
   -- the same calls under another name
   pub asked_as : {S : Type 0} (b : Model S) {h g : K} {s t : S} {xs ys : List Ask} → xs ≡ ys → Asked kind b h s xs g t → Asked kind b h s ys g t

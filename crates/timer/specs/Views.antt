@@ -14,23 +14,23 @@ pub record View : Type 0 where
 
 -- The same timer, running or not.
 abbrev pub with_run : Bool → View → View
-with_run b v = record { run = b; repeat = v.repeat; pending = v.pending; listening = v.listening; due = v.due; is_open = v.is_open; ticks = v.ticks }
+with_run b v = record v { run = b }
 
 -- The same timer with another repeat, and the due that this leaves.
 abbrev pub with_repeat : Bool → ℕ → View → View
-with_repeat b n v = record { run = v.run; repeat = b; pending = v.pending; listening = v.listening; due = n; is_open = v.is_open; ticks = v.ticks }
+with_repeat b n v = record v { repeat = b; due = n }
 
 -- The same timer, pending or not.
 abbrev pub with_pending : Bool → View → View
-with_pending b v = record { run = v.run; repeat = v.repeat; pending = b; listening = v.listening; due = v.due; is_open = v.is_open; ticks = v.ticks }
+with_pending b v = record v { pending = b }
 
 -- The same timer, listening or not.
 abbrev pub with_listening : Bool → View → View
-with_listening b v = record { run = v.run; repeat = v.repeat; pending = v.pending; listening = b; due = v.due; is_open = v.is_open; ticks = v.ticks }
+with_listening b v = record v { listening = b }
 
 -- The same timer, due after n ticks.
 abbrev pub with_due : ℕ → View → View
-with_due n v = record { run = v.run; repeat = v.repeat; pending = v.pending; listening = v.listening; due = n; is_open = v.is_open; ticks = v.ticks }
+with_due n v = record v { due = n }
 
 -- A load is refused with 2 where the duration has no ticks, else with 3 where the timer is not open, and else accepted.
 abbrev pub outcome_by : Option ℕ → Bool → Outcome

@@ -1,5 +1,5 @@
 -- The group timer as a kind of timer: what it is and does is in the pages before; what follows that is proof.
-use Rattle.std.specs.Prelude.{◌≡◌, ℕ, ◌*◌, ◌/◌, ◌^◌, cond, List, length, Some, None, nat_lt, ◌≢◌, refl}
+use Rattle.std.specs.Prelude.{◌≡◌, ℕ, List, length, Some, ◌≢◌, refl}
 use Rattle.std.proofs.Common.{sym, ap, subst, ◌∙◌, arith}
 use Rattle.block.specs.Accesses.{Meaning, after}
 use Rattle.block.specs.Places.{place_count}
@@ -28,7 +28,7 @@ left n m a = words_left n (found n m) a (words_of n m.words)
 
 module _ (n : TimerNumber) (m : Meaning) (a : Ask) (sized : length m.words ≡ place_count) where
   pub after_call : after m (accesses m (timer_ops n (found n m) a)) ≡ replaced n m (left n m a)
-  after_call = ap (λ (ws : List ℕ). record { chip = m.chip; words = ws }) (call_words n (found n m) a m sized)
+  after_call = ap (λ (ws : List ℕ). record m { words = ws }) (call_words n (found n m) a m sized)
 
   pub view_after : timer_view n (after m (accesses m (timer_ops n (found n m) a))) ≡ effect (λ on. (timer_view n m).due) a (timer_view n m)
   view_after =
@@ -43,9 +43,7 @@ module _ (n : TimerNumber) (m : Meaning) (a : Ask) (sized : length m.words ≡ p
   watchdog_untouched = untouched Watchdog (λ e. cc)
 
 pub no_ticks : (rate : ℕ) → ticks_at rate 0 ≡ Some 0
-no_ticks rate =
-    let e : 0 * rate ≡ 0 = omega arith in
-    ap (λ (product : ℕ). cond (nat_lt product (2 ^ 64)) (Some (product / 1000000)) None) e
+no_ticks rate = grind arith
 
 -- The kind of the group timers: a handle stays as it is, and a change of repeat keeps due.
 abbrev pub group_kind : Kind GroupTimer

@@ -14,9 +14,10 @@ use Rattle.base.specs.declared.numbers.TimerNumber.TheVariants.{Zero, One}
 use Rattle.base.specs.declared.numbers.AlarmNumber.TheVariants.{Zero as Zero', One as One', Two as Two'}
 use Rattle.timer.specs.declared.part.Part.{Part}
 use Rattle.timer.specs.declared.part.Part.TheVariants.{Timer, Alarm, Watchdog}
-use Rattle.timer.specs.Parts.{word, own_words, own_bits, Untouched}
+use Rattle.timer.specs.Parts.{word, Untouched}
 use Rattle.timer.specs.Between.{Drifted}
 use Rattle.timer.specs.Views.{Drifts}
+use Rattle.timer.proofs.Parts.{alike}
 use Rattle.timer.specs.Kinds.{Ask, Start, Stop, Reset, AskRunning, AskNow, Load, Reload, Listen, Clear, AskPending}
 use Rattle.timg.specs.Rates.{ticks_per_second, ticks_at}
 use Rattle.timg.specs.Words.{TimerWords, words_of, with_words}
@@ -28,46 +29,43 @@ pub record Shared (n : TimerNumber) (r s : TimerWords) : Type 0 where
   pub ena : (q : TimerNumber) → (q ≢ n) → bit s.int_ena (timer_number q) ≡ bit r.int_ena (timer_number q)
   pub raw : (q : TimerNumber) → (q ≢ n) → bit s.int_raw (timer_number q) ≡ bit r.int_raw (timer_number q)
 
-pub small : (n : TimerNumber) → timer_number n < 32
-small n = grind arith
+pub below_32 : (n : TimerNumber) → timer_number n < 32
+below_32 n = grind arith
 
 apart : (n q : TimerNumber) → (q ≢ n) → timer_number q ≢ timer_number n
 apart n q d = grind arith
 
-alike_shared : (n : TimerNumber) (r s : TimerWords) → s.int_ena ≡ r.int_ena → s.int_raw ≡ r.int_raw → Shared n r s
-alike_shared n r s a b = record { ena = λ q d. rw a; raw = λ q d. rw b }
+same_shared : (n : TimerNumber) (r s : TimerWords) → s.int_ena ≡ r.int_ena → s.int_raw ≡ r.int_raw → Shared n r s
+same_shared n r s a b = record { ena = λ q d. rw a; raw = λ q d. rw b }
 
 load_shared : (n : TimerNumber) (r : TimerWords) (t : Option ℕ) → Shared n r (after_load t r)
-load_shared n r None = alike_shared n r _ refl refl
-load_shared n r (Some t) = alike_shared n r _ refl refl
+load_shared n r None = same_shared n r _ refl refl
+load_shared n r (Some t) = same_shared n r _ refl refl
 
 listen_shared : (n : TimerNumber) (r : TimerWords) (level on : Bool) → Shared n r (after_listen n level on r)
-listen_shared n r true on = alike_shared n r _ refl refl
-listen_shared n r false on = record { ena = λ q d. bit_unswitched r.int_ena (timer_number n) (small n) on (timer_number q) (small q) (apart n q d); raw = λ q d. refl }
+listen_shared n r true on = same_shared n r _ refl refl
+listen_shared n r false on = record { ena = λ q d. bit_unswitched r.int_ena (timer_number n) (below_32 n) on (timer_number q) (below_32 q) (apart n q d); raw = λ q d. refl }
 
 -- a call leaves the others' bits
 pub call_shared : (n : TimerNumber) (x : Found) (a : Ask) (r : TimerWords) → Shared n r (words_left n x a r)
-call_shared n x Start r = alike_shared n r _ refl refl
-call_shared n x Stop r = alike_shared n r _ refl refl
-call_shared n x Reset r = alike_shared n r _ refl refl
-call_shared n x AskRunning r = alike_shared n r _ refl refl
-call_shared n x AskNow r = alike_shared n r _ refl refl
+call_shared n x Start r = same_shared n r _ refl refl
+call_shared n x Stop r = same_shared n r _ refl refl
+call_shared n x Reset r = same_shared n r _ refl refl
+call_shared n x AskRunning r = same_shared n r _ refl refl
+call_shared n x AskNow r = same_shared n r _ refl refl
 call_shared n x (Load us) r = load_shared n r (x.ticks us)
-call_shared n x (Reload on) r = alike_shared n r _ refl refl
+call_shared n x (Reload on) r = same_shared n r _ refl refl
 call_shared n x (Listen on) r = listen_shared n r x.level on
 call_shared n x Clear r = record { ena = λ q d. refl; raw = λ q d. bit_untaken r.int_raw (timer_number n) (timer_number q) (apart n q d) }
-call_shared n x AskPending r = alike_shared n r _ refl refl
+call_shared n x AskPending r = same_shared n r _ refl refl
 
 -- A block with the timer's words replaced.
 abbrev pub replaced : TimerNumber → Meaning → TimerWords → Meaning
-replaced n m r = record { chip = m.chip; words = with_words n m.words r }
+replaced n m r = record m { words = with_words n m.words r }
 
 -- Where the others' bits are the same, the words of timer n are no other part's.
 abbrev Kept : TimerNumber → Part → TimerWords → Meaning → Type 0
 Kept n p r m = Shared n (words_of n m.words) r → (p ≢ Timer n) → Untouched p m (replaced n m r)
-
-alike : {p : Part} {m k : Meaning} → k.chip ≡ m.chip → word k 29 ≡ word m 29 → own_words p k ≡ own_words p m → own_bits p k ≡ own_bits p m → Untouched p m k
-alike c v w b = record { chip = c; valid = v; words = w; bits = b }
 
 other : (q n : TimerNumber) → (Timer q ≢ Timer n) → q ≢ n
 other q n d e = d (ap Timer e)

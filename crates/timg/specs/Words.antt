@@ -42,70 +42,20 @@ with_words n ws r =
 
 -- The same words with another CONFIG.
 abbrev pub with_config : ℕ → TimerWords → TimerWords
-with_config w r = record {
-  config = w;
-  lo = r.lo;
-  hi = r.hi;
-  alarm_lo = r.alarm_lo;
-  alarm_hi = r.alarm_hi;
-  load_lo = r.load_lo;
-  load_hi = r.load_hi;
-  int_ena = r.int_ena;
-  int_raw = r.int_raw;
-}
+with_config w r = record r { config = w }
 
 -- The same words with the count and what it was loaded from at 0.
 abbrev pub with_count_0 : TimerWords → TimerWords
-with_count_0 r = record {
-  config = r.config;
-  lo = 0;
-  hi = 0;
-  alarm_lo = r.alarm_lo;
-  alarm_hi = r.alarm_hi;
-  load_lo = 0;
-  load_hi = 0;
-  int_ena = r.int_ena;
-  int_raw = r.int_raw;
-}
+with_count_0 r = record r { lo = 0; hi = 0; load_lo = 0; load_hi = 0 }
 
 -- The same words with another alarm.
 abbrev pub with_alarm : ℕ → ℕ → TimerWords → TimerWords
-with_alarm low high r = record {
-  config = r.config;
-  lo = r.lo;
-  hi = r.hi;
-  alarm_lo = low;
-  alarm_hi = high;
-  load_lo = r.load_lo;
-  load_hi = r.load_hi;
-  int_ena = r.int_ena;
-  int_raw = r.int_raw;
-}
+with_alarm low high r = record r { alarm_lo = low; alarm_hi = high }
 
 -- The same words with another INT_ENA.
 abbrev pub with_int_ena : ℕ → TimerWords → TimerWords
-with_int_ena w r = record {
-  config = r.config;
-  lo = r.lo;
-  hi = r.hi;
-  alarm_lo = r.alarm_lo;
-  alarm_hi = r.alarm_hi;
-  load_lo = r.load_lo;
-  load_hi = r.load_hi;
-  int_ena = w;
-  int_raw = r.int_raw;
-}
+with_int_ena w r = record r { int_ena = w }
 
 -- The same words with another INT_RAW.
 abbrev pub with_int_raw : ℕ → TimerWords → TimerWords
-with_int_raw w r = record {
-  config = r.config;
-  lo = r.lo;
-  hi = r.hi;
-  alarm_lo = r.alarm_lo;
-  alarm_hi = r.alarm_hi;
-  load_lo = r.load_lo;
-  load_hi = r.load_hi;
-  int_ena = r.int_ena;
-  int_raw = w;
-}
+with_int_raw w r = record r { int_raw = w }
