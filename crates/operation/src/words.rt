@@ -24,6 +24,6 @@ impl From<TwoWords> for u64 {
     ghost from_gives = { λ words number. number ≡ joined words };
 
     fn from(words: TwoWords) -> u64 {
-        u64::from(words.high) << 32 | u64::from(words.low)
+        (u64::from(words.high) << 32) | u64::from(words.low)
     }
 }
