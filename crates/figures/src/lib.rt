@@ -70,8 +70,6 @@ pub fn too_long_period() -> Option<u64>
 pub fn target_past_the_end() -> Option<u64>
     ensures { result ≡ Some 15 }
 {
-    alarm_ticks(Duration::from_micros(1), TICKS_PER_MICRO, false).map(|ticks| target_after(
-        0xF_FFFF_FFFF_FFFF,
-        ticks,
-    ))
+    let ticks = alarm_ticks(Duration::from_micros(1), TICKS_PER_MICRO, false)?;
+    Some(target_after(0xF_FFFF_FFFF_FFFF, ticks))
 }

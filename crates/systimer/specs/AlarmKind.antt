@@ -18,7 +18,7 @@ use Rattle.systimer.specs.Steps.{alarm_ops, words_left, origin_left}
 use Rattle.systimer.specs.Views.{view_by, alarm_view, alarm_reads, found, due_of, can_read, count_of}
 use Rattle.systimer.specs.WordLaws.{call_words, words_back}
 use Rattle.systimer.specs.ViewLaws.{call_view}
-use Rattle.systimer.specs.PartLaws.{replaced, call_shared, others_kept, alarm_local, alarm_drift, alarm_idle, alarm_silent}
+use Rattle.systimer.specs.PartLaws.{replaced, call_shared, watchdog_kept, others_kept, alarm_local, alarm_drift, alarm_idle, alarm_silent}
 use Rattle.systimer.specs.declared.alarm.Alarm.{Alarm}
 
 -- The number of the alarm that a handle is for.
@@ -37,12 +37,9 @@ module _ (n : AlarmNumber) (m : Meaning) (a : Ask) (sized : length m.words ≡ p
   pub after_call : after m (accesses m (alarm_ops n (found n m) a)) ≡ replaced n m (left n m a)
   after_call = ap (λ (ws : List ℕ). record m { words = ws }) (call_words n (found n m) a m sized)
 
-  kept_apart : (p : Part) → (p ≢ AlarmPart n) → Untouched p m (replaced n m (left n m a))
-  kept_apart p d = others_kept n p (left n m a) m sized (call_shared n (found n m) a (words_of n m.words)) d
-
   -- no call changes whether the count can be read
   pub still_valid : can_read (replaced n m (left n m a)) ≡ can_read m
-  still_valid = ap (λ (w : ℕ). bit w 2) (kept_apart Watchdog (λ e. cc)).valid
+  still_valid = ap (λ (w : ℕ). bit w 2) (watchdog_kept n (left n m a) m sized).valid
 
   pub view_after : (origin : ℕ) → alarm_view n (origin_left (found n m) a origin) (after m (accesses m (alarm_ops n (found n m) a))) ≡ effect (λ on. due_of on origin (words_of n m.words)) a (alarm_view n origin m)
   view_after origin =
@@ -53,10 +50,10 @@ module _ (n : AlarmNumber) (m : Meaning) (a : Ask) (sized : length m.words ≡ p
       ∙ call_view m.chip n (can_read m) (count_of m) origin (words_of n m.words) a
 
   pub untouched : (p : Part) → (p ≢ AlarmPart n) → Untouched p m (after m (accesses m (alarm_ops n (found n m) a)))
-  untouched p d = subst (Untouched p m) (sym after_call) (kept_apart p d)
+  untouched p d = subst (Untouched p m) (sym after_call) (others_kept n (left n m a) m sized p (call_shared n (found n m) a (words_of n m.words)) d)
 
   pub watchdog_untouched : Untouched Watchdog m (after m (accesses m (alarm_ops n (found n m) a)))
-  watchdog_untouched = untouched Watchdog (λ e. cc)
+  watchdog_untouched = subst (Untouched Watchdog m) (sym after_call) (watchdog_kept n (left n m a) m sized)
 
 pub no_ticks : (k : ℕ) (repeat : Bool) → ticks_at k repeat 0 ≡ Some 0
 no_ticks k repeat = grind arith

@@ -10,6 +10,7 @@ use Rattle.operation.specs.Operations.{with_bits}
 use Rattle.operation.proofs.Masks.{bit_unswitched, bit_untaken, bit_same}
 use Rattle.operation.proofs.Written.{written, at_written}
 use Rattle.base.specs.declared.chip.Chip.{Chip}
+use Rattle.base.specs.declared.numbers.TimerNumber.{TimerNumber}
 use Rattle.base.specs.declared.numbers.TimerNumber.TheVariants.{Zero as Zero', One as One'}
 use Rattle.base.specs.declared.numbers.AlarmNumber.{AlarmNumber}
 use Rattle.base.specs.declared.numbers.AlarmNumber.TheVariants.{Zero, One, Two}
@@ -84,28 +85,42 @@ Kept n p r m = Shared n (words_of n m.words) r → (p ≢ Alarm n) → Untouched
 other : (q n : AlarmNumber) → (Alarm q ≢ Alarm n) → q ≢ n
 other q n d e = d (ap Alarm e)
 
-kept : (chip : Chip) (f : ℕ → ℕ) (n : AlarmNumber) (p : Part) (r : AlarmWords) → Kept n p r (written chip f)
-kept chip f Zero (Alarm Zero) r s d = absurd (d refl)
-kept chip f Zero (Alarm One) r s d = let e = other One Zero d in alike refl refl refl (rw (s.conf One e, s.ena One e, s.raw One e))
-kept chip f Zero (Alarm Two) r s d = let e = other Two Zero d in alike refl refl refl (rw (s.conf Two e, s.ena Two e, s.raw Two e))
-kept chip f One (Alarm Zero) r s d = let e = other Zero One d in alike refl refl refl (rw (s.conf Zero e, s.ena Zero e, s.raw Zero e))
-kept chip f One (Alarm One) r s d = absurd (d refl)
-kept chip f One (Alarm Two) r s d = let e = other Two One d in alike refl refl refl (rw (s.conf Two e, s.ena Two e, s.raw Two e))
-kept chip f Two (Alarm Zero) r s d = let e = other Zero Two d in alike refl refl refl (rw (s.conf Zero e, s.ena Zero e, s.raw Zero e))
-kept chip f Two (Alarm One) r s d = let e = other One Two d in alike refl refl refl (rw (s.conf One e, s.ena One e, s.raw One e))
-kept chip f Two (Alarm Two) r s d = absurd (d refl)
-kept chip f Zero (Timer Zero') r s d = alike refl refl refl refl
-kept chip f Zero (Timer One') r s d = alike refl refl refl refl
-kept chip f One (Timer Zero') r s d = alike refl refl refl refl
-kept chip f One (Timer One') r s d = alike refl refl refl refl
-kept chip f Two (Timer Zero') r s d = alike refl refl refl refl
-kept chip f Two (Timer One') r s d = alike refl refl refl refl
-kept chip f Zero Watchdog r s d = alike refl refl refl refl
-kept chip f One Watchdog r s d = alike refl refl refl refl
-kept chip f Two Watchdog r s d = alike refl refl refl refl
+alarm_at : (chip : Chip) (f : ℕ → ℕ) (n q : AlarmNumber) (r : AlarmWords) → Kept n (Alarm q) r (written chip f)
+alarm_at chip f Zero Zero r s d = absurd (d refl)
+alarm_at chip f Zero One r s d = let e = other One Zero d in alike refl refl refl (rw (s.conf One e, s.ena One e, s.raw One e))
+alarm_at chip f Zero Two r s d = let e = other Two Zero d in alike refl refl refl (rw (s.conf Two e, s.ena Two e, s.raw Two e))
+alarm_at chip f One Zero r s d = let e = other Zero One d in alike refl refl refl (rw (s.conf Zero e, s.ena Zero e, s.raw Zero e))
+alarm_at chip f One One r s d = absurd (d refl)
+alarm_at chip f One Two r s d = let e = other Two One d in alike refl refl refl (rw (s.conf Two e, s.ena Two e, s.raw Two e))
+alarm_at chip f Two Zero r s d = let e = other Zero Two d in alike refl refl refl (rw (s.conf Zero e, s.ena Zero e, s.raw Zero e))
+alarm_at chip f Two One r s d = let e = other One Two d in alike refl refl refl (rw (s.conf One e, s.ena One e, s.raw One e))
+alarm_at chip f Two Two r s d = absurd (d refl)
 
-pub others_kept : (n : AlarmNumber) (p : Part) (r : AlarmWords) (m : Meaning) → length m.words ≡ place_count → Kept n p r m
-others_kept n p r m sized = at_written (Kept n p r) m sized (λ chip f. kept chip f n p r)
+timer_at : (chip : Chip) (f : ℕ → ℕ) (n : AlarmNumber) (q : TimerNumber) (r : AlarmWords) → Untouched (Timer q) (written chip f) (replaced n (written chip f) r)
+timer_at chip f Zero Zero' r = alike refl refl refl refl
+timer_at chip f Zero One' r = alike refl refl refl refl
+timer_at chip f One Zero' r = alike refl refl refl refl
+timer_at chip f One One' r = alike refl refl refl refl
+timer_at chip f Two Zero' r = alike refl refl refl refl
+timer_at chip f Two One' r = alike refl refl refl refl
+
+watchdog_at : (chip : Chip) (f : ℕ → ℕ) (n : AlarmNumber) (r : AlarmWords) → Untouched Watchdog (written chip f) (replaced n (written chip f) r)
+watchdog_at chip f Zero r = alike refl refl refl refl
+watchdog_at chip f One r = alike refl refl refl refl
+watchdog_at chip f Two r = alike refl refl refl refl
+
+module _ (n : AlarmNumber) (r : AlarmWords) (m : Meaning) (sized : length m.words ≡ place_count) where
+  -- whatever its words become, they are no timer's and not the watchdog's
+  timer_kept : (q : TimerNumber) → Untouched (Timer q) m (replaced n m r)
+  timer_kept q = at_written (λ (m : Meaning). Untouched (Timer q) m (replaced n m r)) m sized (λ chip f. timer_at chip f n q r)
+
+  pub watchdog_kept : Untouched Watchdog m (replaced n m r)
+  watchdog_kept = at_written (λ (m : Meaning). Untouched Watchdog m (replaced n m r)) m sized (λ chip f. watchdog_at chip f n r)
+
+  pub others_kept : (p : Part) → Kept n p r m
+  others_kept (Alarm q) s d = at_written (Kept n (Alarm q) r) m sized (λ chip f. alarm_at chip f n q r) s d
+  others_kept (Timer q) s d = timer_kept q
+  others_kept Watchdog s d = watchdog_kept
 
 -- an alarm is made of its part alone
 pub alarm_local : (n : AlarmNumber) (origin : ℕ) (m k : Meaning) → Untouched (Alarm n) m k → alarm_view n origin k ≡ alarm_view n origin m

@@ -15,7 +15,7 @@ use Rattle.timg.specs.Steps.{timer_ops, words_left}
 use Rattle.timg.specs.Views.{view_by, timer_view, timer_reads, found, can_read}
 use Rattle.timg.specs.WordLaws.{call_words, words_back}
 use Rattle.timg.specs.ViewLaws.{call_view}
-use Rattle.timg.specs.PartLaws.{replaced, call_shared, others_kept, timer_local, timer_drift, timer_idle, timer_silent}
+use Rattle.timg.specs.PartLaws.{replaced, call_shared, watchdog_kept, others_kept, timer_local, timer_drift, timer_idle, timer_silent}
 use Rattle.timg.specs.declared.group_timer.GroupTimer.{GroupTimer}
 
 -- The number of the timer that a handle is for.
@@ -37,10 +37,10 @@ module _ (n : TimerNumber) (m : Meaning) (a : Ask) (sized : length m.words ≡ p
       ∙ call_view m.chip n (can_read n m) (words_of n m.words) a
 
   pub untouched : (p : Part) → (p ≢ Timer n) → Untouched p m (after m (accesses m (timer_ops n (found n m) a)))
-  untouched p d = subst (Untouched p m) (sym after_call) (others_kept n p (left n m a) m sized (call_shared n (found n m) a (words_of n m.words)) d)
+  untouched p d = subst (Untouched p m) (sym after_call) (others_kept n (left n m a) m sized p (call_shared n (found n m) a (words_of n m.words)) d)
 
   pub watchdog_untouched : Untouched Watchdog m (after m (accesses m (timer_ops n (found n m) a)))
-  watchdog_untouched = untouched Watchdog (λ e. cc)
+  watchdog_untouched = subst (Untouched Watchdog m) (sym after_call) (watchdog_kept n (left n m a) m sized)
 
 pub no_ticks : (rate : ℕ) → ticks_at rate 0 ≡ Some 0
 no_ticks rate = grind arith

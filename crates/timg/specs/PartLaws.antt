@@ -11,6 +11,7 @@ use Rattle.operation.proofs.Written.{written, at_written}
 use Rattle.base.specs.declared.chip.Chip.{Chip}
 use Rattle.base.specs.declared.numbers.TimerNumber.{TimerNumber}
 use Rattle.base.specs.declared.numbers.TimerNumber.TheVariants.{Zero, One}
+use Rattle.base.specs.declared.numbers.AlarmNumber.{AlarmNumber}
 use Rattle.base.specs.declared.numbers.AlarmNumber.TheVariants.{Zero as Zero', One as One', Two as Two'}
 use Rattle.timer.specs.declared.part.Part.{Part}
 use Rattle.timer.specs.declared.part.Part.TheVariants.{Timer, Alarm, Watchdog}
@@ -42,8 +43,11 @@ load_shared : (n : TimerNumber) (r : TimerWords) (t : Option ℕ) → Shared n r
 load_shared n r None = same_shared n r _ refl refl
 load_shared n r (Some t) = same_shared n r _ refl refl
 
+listen_raw : (n : TimerNumber) (r : TimerWords) (level on : Bool) → (after_listen n level on r).int_raw ≡ r.int_raw
+listen_raw n r level on = grind arith
+
 listen_shared : (n : TimerNumber) (r : TimerWords) (level on : Bool) → Shared n r (after_listen n level on r)
-listen_shared n r true on = same_shared n r _ refl refl
+listen_shared n r true on = same_shared n r _ refl (listen_raw n r true on)
 listen_shared n r false on = record { ena = λ q d. bit_unswitched r.int_ena (timer_number n) (below_32 n) on (timer_number q) (below_32 q) (apart n q d); raw = λ q d. refl }
 
 -- a call leaves the others' bits
@@ -70,22 +74,36 @@ Kept n p r m = Shared n (words_of n m.words) r → (p ≢ Timer n) → Untouched
 other : (q n : TimerNumber) → (Timer q ≢ Timer n) → q ≢ n
 other q n d e = d (ap Timer e)
 
-kept : (chip : Chip) (f : ℕ → ℕ) (n : TimerNumber) (p : Part) (r : TimerWords) → Kept n p r (written chip f)
-kept chip f Zero (Timer Zero) r s d = absurd (d refl)
-kept chip f Zero (Timer One) r s d = alike refl refl refl (rw (s.ena One (other One Zero d), s.raw One (other One Zero d)))
-kept chip f One (Timer Zero) r s d = alike refl refl refl (rw (s.ena Zero (other Zero One d), s.raw Zero (other Zero One d)))
-kept chip f One (Timer One) r s d = absurd (d refl)
-kept chip f Zero (Alarm Zero') r s d = alike refl refl refl refl
-kept chip f Zero (Alarm One') r s d = alike refl refl refl refl
-kept chip f Zero (Alarm Two') r s d = alike refl refl refl refl
-kept chip f One (Alarm Zero') r s d = alike refl refl refl refl
-kept chip f One (Alarm One') r s d = alike refl refl refl refl
-kept chip f One (Alarm Two') r s d = alike refl refl refl refl
-kept chip f Zero Watchdog r s d = alike refl refl refl refl
-kept chip f One Watchdog r s d = alike refl refl refl refl
+timer_at : (chip : Chip) (f : ℕ → ℕ) (n q : TimerNumber) (r : TimerWords) → Kept n (Timer q) r (written chip f)
+timer_at chip f Zero Zero r s d = absurd (d refl)
+timer_at chip f Zero One r s d = alike refl refl refl (rw (s.ena One (other One Zero d), s.raw One (other One Zero d)))
+timer_at chip f One Zero r s d = alike refl refl refl (rw (s.ena Zero (other Zero One d), s.raw Zero (other Zero One d)))
+timer_at chip f One One r s d = absurd (d refl)
 
-pub others_kept : (n : TimerNumber) (p : Part) (r : TimerWords) (m : Meaning) → length m.words ≡ place_count → Kept n p r m
-others_kept n p r m sized = at_written (Kept n p r) m sized (λ chip f. kept chip f n p r)
+alarm_at : (chip : Chip) (f : ℕ → ℕ) (n : TimerNumber) (q : AlarmNumber) (r : TimerWords) → Untouched (Alarm q) (written chip f) (replaced n (written chip f) r)
+alarm_at chip f Zero Zero' r = alike refl refl refl refl
+alarm_at chip f Zero One' r = alike refl refl refl refl
+alarm_at chip f Zero Two' r = alike refl refl refl refl
+alarm_at chip f One Zero' r = alike refl refl refl refl
+alarm_at chip f One One' r = alike refl refl refl refl
+alarm_at chip f One Two' r = alike refl refl refl refl
+
+watchdog_at : (chip : Chip) (f : ℕ → ℕ) (n : TimerNumber) (r : TimerWords) → Untouched Watchdog (written chip f) (replaced n (written chip f) r)
+watchdog_at chip f Zero r = alike refl refl refl refl
+watchdog_at chip f One r = alike refl refl refl refl
+
+module _ (n : TimerNumber) (r : TimerWords) (m : Meaning) (sized : length m.words ≡ place_count) where
+  -- whatever its words become, they are no alarm's and not the watchdog's
+  alarm_kept : (q : AlarmNumber) → Untouched (Alarm q) m (replaced n m r)
+  alarm_kept q = at_written (λ (m : Meaning). Untouched (Alarm q) m (replaced n m r)) m sized (λ chip f. alarm_at chip f n q r)
+
+  pub watchdog_kept : Untouched Watchdog m (replaced n m r)
+  watchdog_kept = at_written (λ (m : Meaning). Untouched Watchdog m (replaced n m r)) m sized (λ chip f. watchdog_at chip f n r)
+
+  pub others_kept : (p : Part) → Kept n p r m
+  others_kept (Timer q) s d = at_written (Kept n (Timer q) r) m sized (λ chip f. timer_at chip f n q r) s d
+  others_kept (Alarm q) s d = alarm_kept q
+  others_kept Watchdog s d = watchdog_kept
 
 -- a timer is made of its part alone
 pub timer_local : (n : TimerNumber) (m k : Meaning) → Untouched (Timer n) m k → timer_view n k ≡ timer_view n m
