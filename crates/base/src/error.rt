@@ -35,8 +35,8 @@ impl fmt::Display for Error {
             | Error::InvalidTimeout
             | Error::Unfinished
             | Error::OutOfRange
+            | Error::BadProfile
             | Error::NoSuchPart => write!(f, "refused {number}"),
-            Error::BadProfile => write!(f, "refused {number}"),
             Error::BadRecord(at) | Error::BadLength(at) => write!(f, "refused {number} at {at}"),
         }
     }

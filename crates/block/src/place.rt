@@ -7,7 +7,7 @@ use base::registers::{
     AlarmRegister, GroupRegister, SystemRegister, TimerRegister, WatchdogRegister,
 };
 
-/// Outside this crate no watchdog register and not its protection word can be made.
+/// Outside this crate no place of a watchdog register or of its protection word can be made.
 #[derive(Clone, Copy)]
 pub struct Place {
     index: u8,

@@ -55,11 +55,10 @@ impl RegisterFile {
             PutRule::Loads(number) => load(words, number),
             PutRule::ClearsGroup => clear_at(words, GroupRegister::IntRaw.into(), word),
             PutRule::ClearsSystem => clear_at(words, SystemRegister::IntRaw.into(), word),
-            PutRule::Protected => store_protected(words, at, word),
             PutRule::Confirmed if self.chip.confirm => {
                 store_protected(words, at, clear(word, CONFIRM));
             }
-            PutRule::Confirmed => store_protected(words, at, word),
+            PutRule::Protected | PutRule::Confirmed => store_protected(words, at, word),
             PutRule::TargetHigh => store(words, at, word % 0x10_0000),
         }
     }

@@ -226,7 +226,7 @@ fn bad_length_puts_nothing(rt: HostRuntime) {
     );
 }
 
-// Three puts on a recorder over a list of `length` bytes, and how many it counts.
+// Three puts on a recorder over the list, and how many it counts.
 fn three_puts(list: &mut [u8]) -> u64 {
     let (mut block, _) = Recorder::new(Profile::bench(), list);
     let int_ena = Place::from(GroupRegister::IntEna);

@@ -33,14 +33,14 @@ impl<'a, K: Timer, B: Block, const REPEAT: bool> Driver<'a, K, B, REPEAT> {
         Self { handle, block }
     }
 
-    /// Takes the timer's interrupt back.
+    /// Clears the timer's interrupt.
     pub fn clear_interrupt(&mut self)
         ensures { Makes K.Timer.kind B.Block.model self.old ClearInterrupt Accepted self.new }
     {
         self.handle.clear_interrupt(self.block);
     }
 
-    /// Whether the timer's interrupt is passed on.
+    /// Passes the timer's interrupt on, or not.
     pub fn listen(&mut self, state: bool)
         ensures { Makes K.Timer.kind B.Block.model self.old (Listen state) Accepted self.new }
     {

@@ -2,26 +2,11 @@
 use base::numbers::{AlarmNumber, TimerNumber};
 use driver::call::Call;
 use jobs::bench::Step;
-use std::alloc::{AllocError, Global};
-use thiserror::Error;
 use time::Duration;
 
-/// A step of a job, with the line that asks for it.
+/// The line is no call, no remark and not blank.
 #[derive(Clone, Copy)]
-pub struct Request<'a> {
-    pub line: &'a str,
-    pub step: Step,
-}
-
-/// Why a job can't be read.
-#[derive(Debug, Drop, Error)]
-pub enum ReadError {
-    /// The first line that can't be read, by its number from 1.
-    #[error("refused line {0}")]
-    BadLine(usize),
-    #[error(transparent)]
-    Memory(#[from(alloc)] AllocError),
-}
+pub struct BadLine;
 
 // A duration in microseconds.
 fn read_duration(word: &str) -> Option<Duration> {
@@ -60,15 +45,11 @@ fn read_step(line: &str) -> Option<Step> {
     }
 }
 
-/// The steps of a job in their order: a line each, but for those that are blank or a remark behind `#`.
-pub fn read_job(heap: Global, text: &str) -> Result<Vec<Request<'_>>, ReadError> {
-    let mut job = Vec::new(heap);
-    for (number, line) in (1..).zip(text.lines().map(str::trim)) {
-        if line.is_empty() || line.starts_with('#') {
-            continue;
-        }
-        let step = read_step(line).ok_or(ReadError::BadLine(number))?;
-        job.push(Request { line, step })?;
+/// The step that a line asks for; none where it is blank, or a remark behind `#`.
+pub fn read_line(line: &str) -> Result<Option<Step>, BadLine> {
+    let text = line.trim();
+    if text.is_empty() || text.starts_with('#') {
+        return Ok(None);
     }
-    Ok(job)
+    read_step(text).map(Some).ok_or(BadLine)
 }

@@ -8,7 +8,7 @@ use anyhow::{Context, bail};
 use base::error::Error;
 use base::profile::Profile;
 use jobs::bench::{Bench, Step};
-use lines::{ReadError, Request, read_job};
+use lines::read_line;
 use recorder::Recorder;
 use setting::readout::settings;
 use std::{env, fmt, fs, io};
@@ -61,12 +61,13 @@ impl<'a> Unit<'a> {
 
 // Runs the job over the list, prints each step with its outcome and the settings afterwards, and answers how many puts
 // were made.
-fn run(rt: &HostRuntime, job: &[Request<'_>], list: &mut [u8]) -> io::Result<u64> {
+fn run(rt: &HostRuntime, text: &str, list: &mut [u8]) -> io::Result<u64> {
     let mut unit = Unit::new(list);
-    for request in job {
-        let line = request.line;
-        let outcome = unit.perform(request.step);
-        println!(rt; "{line}: {outcome}")?;
+    for line in text.lines() {
+        if let Ok(Some(step)) = read_line(line) {
+            let outcome = unit.perform(step);
+            println!(rt; "{}: {outcome}", line.trim())?;
+        }
     }
     println!(rt; "{}", settings(&unit.recorder, unit.bench.origins()))?;
     Ok(unit.recorder.puts())
@@ -75,16 +76,16 @@ fn run(rt: &HostRuntime, job: &[Request<'_>], list: &mut [u8]) -> io::Result<u64
 fn main(rt: HostRuntime) -> anyhow::Result<()> {
     let path = env::args(&rt)?.nth(1);
     let text = io::read_to_string(rt.alloc(), rt.stdin())?;
-    let job = match read_job(rt.alloc(), text.as_str()) {
-        Ok(job) => job,
-        Err(error @ ReadError::BadLine(_)) => {
-            println!(rt; "{error}")?;
-            bail!("a line can't be read");
-        }
-        Err(error) => return Err(error.into()),
-    };
+    // Nothing is run where a line can't be read.
+    let bad = (1u64..)
+        .zip(text.as_str().lines())
+        .find(|(_, line)| read_line(line).is_err());
+    if let Some((number, _)) = bad {
+        println!(rt; "refused line {number}")?;
+        bail!("a line can't be read");
+    }
     let mut list = vec![in rt.alloc(); 0u8; MOST_BYTES]?;
-    let puts = run(&rt, &job, list.as_mut_slice())?;
+    let puts = run(&rt, text.as_str(), list.as_mut_slice())?;
     if let Some(path) = path {
         let made = list
             .get(..puts.saturating_mul(8) as usize)

@@ -21,9 +21,8 @@ pub enum Step {
     Alarm(AlarmNumber, Call),
 }
 
-/// The handles of a block's timers and alarms, of whatever kinds. It has the fields of `Handles` and `Settings` and is no
-/// generic struct with them, since a type's methods and its printing lie in its own crate. A block with one timer has
-/// none for timer 1.
+/// The handles of a block's timers and alarms, of whatever kinds. A block with one timer has none for timer 1.
+// The fields are those of `Handles` and `Settings`, but a type's methods and its printing lie in its own crate.
 #[derive(Drop)]
 pub struct Bench<T, A> {
     pub timer0: T,

@@ -70,7 +70,7 @@ impl Recorder<'_> {
     }
 }
 
-// Passed on by hand: a list that lies in a generic block's field is lost for its lender.
+// Passed on by hand: in a field of a generic block the list would be lost for its lender.
 impl<'a> Block for Recorder<'a> {
     ghost model = { recorder_model };
 

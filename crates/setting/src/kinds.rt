@@ -36,7 +36,7 @@ impl From<StageAction> for u8 {
     }
 }
 
-/// One of the same kind for each of the watchdog's four stages.
+/// One value for each of the watchdog's four stages.
 #[derive(Clone, Copy, PartialEq, Eq)]
 pub struct Stages<T> {
     pub stage0: T,

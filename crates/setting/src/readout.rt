@@ -63,102 +63,88 @@ fn actions(config: u32) -> Actions
     }
 }
 
-/// The words of a block, and the chip that says which of them count.
-#[derive(Clone, Copy)]
-pub struct Readout<'a> {
-    pub chip: &'a Chip,
-    pub words: &'a Words,
+fn timer_due(words: &Words, number: TimerNumber) -> u64
+    ensures { result ≡ timer_due number words.now }
+{
+    let high = word_at(words, Place::timer(number, TimerRegister::AlarmHi));
+    let low = word_at(words, Place::timer(number, TimerRegister::AlarmLo));
+    u64::from(TwoWords { high, low })
 }
 
-impl Readout<'_> {
-    fn word(&self, at: Place) -> u32
-        ensures { result ≡ slice_index self.now.words.now at.index }
-    {
-        word_at(self.words, at)
+fn timer_listens(chip: &Chip, words: &Words, number: TimerNumber) -> bool
+    ensures { result ≡ timer_listening chip.now number words.now }
+{
+    if chip.level {
+        let config = word_at(words, Place::timer(number, TimerRegister::Config));
+        is_set(config, 11)
+    } else {
+        let enabled = word_at(words, Place::from(GroupRegister::IntEna));
+        is_set(enabled, u8::from(number))
     }
+}
 
-    fn timer_due(&self, number: TimerNumber) -> u64
-        ensures { result ≡ timer_due number self.now.words.now }
-    {
-        let high = self.word(Place::timer(number, TimerRegister::AlarmHi));
-        let low = self.word(Place::timer(number, TimerRegister::AlarmLo));
-        u64::from(TwoWords { high, low })
+/// The setting of a group timer.
+pub fn timer_setting(chip: &Chip, words: &Words, number: TimerNumber) -> TimerSetting
+    ensures { result ≡ timer_setting chip.now number words.now }
+{
+    let config = word_at(words, Place::timer(number, TimerRegister::Config));
+    TimerSetting {
+        timing: timing(
+            is_set(config, 31),
+            is_set(config, 29),
+            timer_due(words, number),
+        ),
+        listening: timer_listens(chip, words, number),
     }
+}
 
-    fn timer_listens(&self, number: TimerNumber) -> bool
-        ensures { result ≡ timer_listening self.now.chip.now number self.now.words.now }
-    {
-        if self.chip.level {
-            is_set(self.word(Place::timer(number, TimerRegister::Config)), 11)
-        } else {
-            let enabled = self.word(Place::from(GroupRegister::IntEna));
-            is_set(enabled, u8::from(number))
-        }
+fn alarm_due(words: &Words, number: AlarmNumber, origin: u64) -> u64
+    ensures { result ≡ alarm_due origin number words.now }
+{
+    let conf = word_at(words, Place::alarm(number, AlarmRegister::TargetConf));
+    if is_set(conf, 30) {
+        u64::from(conf % 0x400_0000)
+    } else {
+        let high = word_at(words, Place::alarm(number, AlarmRegister::TargetHi));
+        let low = word_at(words, Place::alarm(number, AlarmRegister::TargetLo));
+        count_between(origin, u64::from(TwoWords { high, low }))
     }
+}
 
-    /// The setting of a group timer.
-    pub fn timer(&self, number: TimerNumber) -> TimerSetting
-        ensures { result ≡ timer_setting self.now.chip.now number self.now.words.now }
-    {
-        let config = self.word(Place::timer(number, TimerRegister::Config));
-        TimerSetting {
-            timing: timing(
-                is_set(config, 31),
-                is_set(config, 29),
-                self.timer_due(number),
-            ),
-            listening: self.timer_listens(number),
-        }
+/// The setting of an alarm whose delay began at the system count `origin`.
+pub fn alarm_setting(words: &Words, number: AlarmNumber, origin: u64) -> TimerSetting
+    ensures { result ≡ alarm_setting origin number words.now }
+{
+    let channel = u8::from(number);
+    let running = word_at(words, Place::from(SystemRegister::Conf));
+    let conf = word_at(words, Place::alarm(number, AlarmRegister::TargetConf));
+    let enabled = word_at(words, Place::from(SystemRegister::IntEna));
+    TimerSetting {
+        timing: timing(
+            is_set(running, 24 - channel),
+            is_set(conf, 30),
+            alarm_due(words, number, origin),
+        ),
+        listening: is_set(enabled, channel),
     }
+}
 
-    fn alarm_due(&self, number: AlarmNumber, origin: u64) -> u64
-        ensures { result ≡ alarm_due origin number self.now.words.now }
-    {
-        let conf = self.word(Place::alarm(number, AlarmRegister::TargetConf));
-        if is_set(conf, 30) {
-            u64::from(conf % 0x400_0000)
-        } else {
-            let high = self.word(Place::alarm(number, AlarmRegister::TargetHi));
-            let low = self.word(Place::alarm(number, AlarmRegister::TargetLo));
-            count_between(origin, u64::from(TwoWords { high, low }))
-        }
-    }
-
-    /// The setting of an alarm whose delay began at the system count `origin`.
-    pub fn alarm(&self, number: AlarmNumber, origin: u64) -> TimerSetting
-        ensures { result ≡ alarm_setting origin number self.now.words.now }
-    {
-        let channel = u8::from(number);
-        let running = self.word(Place::from(SystemRegister::Conf));
-        let conf = self.word(Place::alarm(number, AlarmRegister::TargetConf));
-        let enabled = self.word(Place::from(SystemRegister::IntEna));
-        TimerSetting {
-            timing: timing(
-                is_set(running, 24 - channel),
-                is_set(conf, 30),
-                self.alarm_due(number, origin),
-            ),
-            listening: is_set(enabled, channel),
-        }
-    }
-
-    /// The setting of the watchdog.
-    pub fn watchdog(&self) -> WatchdogSetting
-        ensures { result ≡ watchdog_setting self.now.words.now }
-    {
-        let config = watchdog_word(self.words, WatchdogRegister::Config0);
-        let prescaler = watchdog_word(self.words, WatchdogRegister::Config1) >> 16;
-        WatchdogSetting {
-            enabled: is_set(config, 31),
-            actions: actions(config),
-            prescaler: prescaler as u16,
-            holds: Stages {
-                stage0: watchdog_word(self.words, WatchdogRegister::Config2),
-                stage1: watchdog_word(self.words, WatchdogRegister::Config3),
-                stage2: watchdog_word(self.words, WatchdogRegister::Config4),
-                stage3: watchdog_word(self.words, WatchdogRegister::Config5),
-            },
-        }
+/// The setting of the watchdog.
+pub fn watchdog_setting(words: &Words) -> WatchdogSetting
+    ensures { result ≡ watchdog_setting words.now }
+{
+    let config = watchdog_word(words, WatchdogRegister::Config0);
+    let prescaler = watchdog_word(words, WatchdogRegister::Config1) >> 16;
+    WatchdogSetting {
+        enabled: is_set(config, 31),
+        actions: actions(config),
+        prescaler: prescaler as u16,
+        holds: Stages {
+            stage0: watchdog_word(words, WatchdogRegister::Config2),
+            stage1: watchdog_word(words, WatchdogRegister::Config3),
+            stage2: watchdog_word(words, WatchdogRegister::Config4),
+            stage3: watchdog_word(words, WatchdogRegister::Config5),
+        },
     }
 }
 
@@ -168,16 +154,13 @@ pub fn settings<B: Block>(block: &B, origins: Origins) -> Settings
 {
     let chip = block.chip();
     let words = block.words();
-    let readout = Readout {
-        chip: &chip,
-        words: &words,
-    };
+    let timer1 = timer_setting(&chip, &words, TimerNumber::One);
     Settings {
-        timer0: readout.timer(TimerNumber::Zero),
-        timer1: (chip.timers == 2).then_some(readout.timer(TimerNumber::One)),
-        alarm0: readout.alarm(AlarmNumber::Zero, origins.alarm0),
-        alarm1: readout.alarm(AlarmNumber::One, origins.alarm1),
-        alarm2: readout.alarm(AlarmNumber::Two, origins.alarm2),
-        watchdog: readout.watchdog(),
+        timer0: timer_setting(&chip, &words, TimerNumber::Zero),
+        timer1: (chip.timers == 2).then_some(timer1),
+        alarm0: alarm_setting(&words, AlarmNumber::Zero, origins.alarm0),
+        alarm1: alarm_setting(&words, AlarmNumber::One, origins.alarm1),
+        alarm2: alarm_setting(&words, AlarmNumber::Two, origins.alarm2),
+        watchdog: watchdog_setting(&words),
     }
 }

@@ -53,7 +53,7 @@ impl SimulatedBlock {
         (SimulatedBlock { file, comparators }, handles)
     }
 
-    /// Says which counts can be read: bit 0 and 1 for the timers' counts, bit 2 for the system count.
+    /// Says which counts can be read: bits 0 and 1 for the timers' counts, bit 2 for the system count.
     pub fn set_valid(&mut self, valid: u32)
         ensures block { simulated_means self.new ≡ with_word (group_place Valid) valid (simulated_means self.old) }
         ensures comparators { self.new.comparators ≡ self.old.comparators }
@@ -62,7 +62,7 @@ impl SimulatedBlock {
     }
 }
 
-// Passed on by hand, as by the recorder, with which it can't share a generic block.
+// Passed on by hand, a line each: a generic block and a trait for what it keeps would be longer.
 impl Block for SimulatedBlock {
     ghost model = { simulated_model };
 

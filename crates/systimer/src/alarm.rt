@@ -55,7 +55,8 @@ impl Alarm {
     pub fn origin(&self) -> u64
         ensures { result ≡ self.now.origin }
     {
-        self.origin
+        let Alarm { origin, .. } = self;
+        *origin
     }
 
     fn place(&self, register: AlarmRegister) -> Place
@@ -78,7 +79,7 @@ impl Alarm {
         24 - u8::from(self.handle.number())
     }
 
-    // Whether the alarm runs.
+    // Switches the alarm on or off.
     fn run<B: Block>(&self, block: &mut B, on: bool)
         ensures { Performed B.Block.model block.old (switched (system_place Conf) (run_bit (number self.now)) on ∷ []) block.new }
     {

@@ -37,29 +37,29 @@ impl Duration {
         Self(val)
     }
 
-    // A call for each unit, by the crate's names: one line each, which a generic call beneath would not shorten.
+    // A call for each unit, by the crate's names: a line each, on top of which a generic call would come.
     pub fn from_millis(val: u64) -> Option<Self>
         ensures { option_map micros result ≡ fitting 64 (val * 1000) }
     {
-        Some(Self(val.checked_mul(MICROS_PER_MILLI)?))
+        val.checked_mul(MICROS_PER_MILLI).map(Self)
     }
 
     pub fn from_secs(val: u64) -> Option<Self>
         ensures { option_map micros result ≡ fitting 64 (val * 1000000) }
     {
-        Some(Self(val.checked_mul(MICROS_PER_SEC)?))
+        val.checked_mul(MICROS_PER_SEC).map(Self)
     }
 
     pub fn from_minutes(val: u64) -> Option<Self>
         ensures { option_map micros result ≡ fitting 64 (val * 60000000) }
     {
-        Some(Self(val.checked_mul(MICROS_PER_MINUTE)?))
+        val.checked_mul(MICROS_PER_MINUTE).map(Self)
     }
 
     pub fn from_hours(val: u64) -> Option<Self>
         ensures { option_map micros result ≡ fitting 64 (val * 3600000000) }
     {
-        Some(Self(val.checked_mul(MICROS_PER_HOUR)?))
+        val.checked_mul(MICROS_PER_HOUR).map(Self)
     }
 
     pub const fn as_micros(&self) -> u64
@@ -95,25 +95,25 @@ impl Duration {
     pub fn checked_add(self, rhs: Self) -> Option<Self>
         ensures { option_map micros result ≡ fitting 64 (micros self + micros rhs) }
     {
-        Some(Self(self.as_micros().checked_add(rhs.as_micros())?))
+        self.as_micros().checked_add(rhs.as_micros()).map(Self)
     }
 
     pub fn checked_sub(self, rhs: Self) -> Option<Self>
         ensures { option_map micros result ≡ difference (micros self) (micros rhs) }
     {
-        Some(Self(self.as_micros().checked_sub(rhs.as_micros())?))
+        self.as_micros().checked_sub(rhs.as_micros()).map(Self)
     }
 
     pub fn checked_mul(self, rhs: u32) -> Option<Self>
         ensures { option_map micros result ≡ fitting 64 (micros self * rhs) }
     {
-        Some(Self(self.as_micros().checked_mul(u64::from(rhs))?))
+        self.as_micros().checked_mul(u64::from(rhs)).map(Self)
     }
 
     pub fn checked_div(self, rhs: u32) -> Option<Self>
         ensures { option_map micros result ≡ quotient (micros self) rhs }
     {
-        Some(Self(self.as_micros().checked_div(u64::from(rhs))?))
+        self.as_micros().checked_div(u64::from(rhs)).map(Self)
     }
 
     /// How many times `rhs` goes into this duration.

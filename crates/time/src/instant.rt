@@ -38,13 +38,13 @@ impl Instant {
     pub fn checked_add(self, rhs: Duration) -> Option<Self>
         ensures { option_map since_epoch result ≡ fitting 64 (since_epoch self + micros rhs) }
     {
-        Some(Self(self.0.checked_add(rhs.as_micros())?))
+        self.0.checked_add(rhs.as_micros()).map(Self)
     }
 
     pub fn checked_sub(self, rhs: Duration) -> Option<Self>
         ensures { option_map since_epoch result ≡ difference (since_epoch self) (micros rhs) }
     {
-        Some(Self(self.0.checked_sub(rhs.as_micros())?))
+        self.0.checked_sub(rhs.as_micros()).map(Self)
     }
 
     /// The time from `rhs` to this instant. It wraps, as the counter that instants are read from does.

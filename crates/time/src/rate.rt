@@ -34,13 +34,13 @@ impl Rate {
     pub fn from_khz(val: u32) -> Option<Self>
         ensures { option_map hertz result ≡ fitting 32 (val * 1000) }
     {
-        Some(Self(val.checked_mul(HZ_PER_KHZ)?))
+        val.checked_mul(HZ_PER_KHZ).map(Self)
     }
 
     pub fn from_mhz(val: u32) -> Option<Self>
         ensures { option_map hertz result ≡ fitting 32 (val * 1000000) }
     {
-        Some(Self(val.checked_mul(HZ_PER_MHZ)?))
+        val.checked_mul(HZ_PER_MHZ).map(Self)
     }
 
     pub const fn as_hz(&self) -> u32
@@ -65,20 +65,20 @@ impl Rate {
     pub fn as_duration(&self) -> Option<Duration>
         ensures { option_map micros result ≡ quotient 1000000 (hertz self.now) }
     {
-        let period = MICROS_PER_SEC.checked_div(u64::from(self.as_hz()))?;
-        Some(Duration::from_micros(period))
+        let period = MICROS_PER_SEC.checked_div(u64::from(self.as_hz()));
+        period.map(Duration::from_micros)
     }
 
     pub fn checked_mul(self, rhs: u32) -> Option<Self>
         ensures { option_map hertz result ≡ fitting 32 (hertz self * rhs) }
     {
-        Some(Self(self.as_hz().checked_mul(rhs)?))
+        self.as_hz().checked_mul(rhs).map(Self)
     }
 
     pub fn checked_div(self, rhs: u32) -> Option<Self>
         ensures { option_map hertz result ≡ quotient (hertz self) rhs }
     {
-        Some(Self(self.as_hz().checked_div(rhs)?))
+        self.as_hz().checked_div(rhs).map(Self)
     }
 
     /// How many times `rhs` goes into this rate.

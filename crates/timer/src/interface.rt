@@ -42,15 +42,15 @@ pub trait Timer {
         ensures called { Called kind B.Block.model self.old block.old (Load (micros value)) self.new block.new }
         ensures answer { outcome result ≡ load_outcome (micros value) (kind.view self.old (B.Block.model.means block.old)) };
 
-    /// Whether the timer starts again by itself when it is due.
+    /// Makes the timer start again by itself when it is due, or not.
     fn enable_auto_reload<B: Block>(&mut self, block: &mut B, auto_reload: bool)
         ensures { Called kind B.Block.model self.old block.old (Reload auto_reload) self.new block.new };
 
-    /// Whether the timer's interrupt is passed on.
+    /// Passes the timer's interrupt on, or not.
     fn enable_interrupt<B: Block>(&mut self, block: &mut B, state: bool)
         ensures { Called kind B.Block.model self.old block.old (Listen state) self.new block.new };
 
-    /// Takes the interrupt back.
+    /// Clears the interrupt.
     fn clear_interrupt<B: Block>(&mut self, block: &mut B)
         ensures { Called kind B.Block.model self.old block.old Clear self.new block.new };
 

@@ -56,7 +56,7 @@ impl LoggedBlock {
     }
 }
 
-// Passed on by hand, as by the recorder, with which it can't share a generic block.
+// Passed on by hand, a line each: a generic block and a trait for what it keeps would be longer.
 impl Block for LoggedBlock {
     ghost model = { logged_model };
 

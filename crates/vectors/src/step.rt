@@ -41,8 +41,7 @@ pub fn read_step(line: &str) -> Option<Step<'_>> {
 
 fn read_set(text: &str) -> Option<Step<'_>> {
     let (index, word) = text.split_once(' ')?;
-    let index = number::<u64>(index)?;
-    Some(Step::SetWord(index.try_into().ok()?, number(word)?))
+    Some(Step::SetWord(number(index)?, number(word)?))
 }
 
 fn read_alike(line: &str) -> Option<Step<'_>> {
