@@ -59,9 +59,7 @@ pub fn replay<B: Block>(block: &mut B, list: &[u8]) -> Result<(), Error>
         return Err(Error::BadLength(records.len().min(MOST_RECORDS)));
     }
     for (index, bytes) in records.iter().enumerate() {
-        let Some(Record { at, word }) = Record::read(bytes) else {
-            return Err(Error::BadRecord(index));
-        };
+        let Record { at, word } = Record::read(bytes).ok_or(Error::BadRecord(index))?;
         block.put(at, word);
     }
     Ok(())

@@ -19,8 +19,8 @@ use block::access::Block;
 use block::place::Place;
 use block::words::{Words, watchdog_word, word_at};
 
-// The system count runs modulo 2^52.
-const COUNT_MODULUS: u64 = 1 << 52;
+/// The system count runs modulo 2^52.
+pub const COUNT_MODULUS: u64 = 1 << 52;
 
 fn timing(run: bool, repeat: bool, due: u64) -> Timing
     ensures { result ≡ timing_of run repeat due }

@@ -18,6 +18,7 @@ use block::access::Block;
 use block::parts::AlarmHandle;
 use block::place::Place;
 use operation::{modify, read, switch, write};
+use setting::readout::COUNT_MODULUS;
 use time::{Duration, Instant};
 use timer::interface::Timer;
 
@@ -31,9 +32,6 @@ const STALL: u8 = 28;
 
 // The bit of VALID by which the system count can be read.
 const COUNT_VALID: u8 = 2;
-
-// The system count has 52 bits.
-const COUNT_MODULUS: u64 = 0x10_0000_0000_0000;
 
 /// An alarm, by its handle. It keeps the system count from which its last delay began, so that the delay can be told
 /// from the target.
