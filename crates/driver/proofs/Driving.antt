@@ -44,26 +44,27 @@ module _ {K S : Type 0} {kind : Kind K} {b : Model S} where
   made_arming false d answer asked view = record { answer = answer; asked = asked; view = view }
   made_arming true d answer asked view = record { answer = answer; asked = asked; view = view }
 
-module _ {K S : Type 0} {kind : Kind K} {b : Model S} {h g k l : K} {s t u w : S}
-    (halted : Drives kind b h s (halt_asks (kind.view h (b.means s))) (with_run false (kind.view h (b.means s))) g t)
-    (cleared : Made kind b g t ClearInterrupt Accepted k u) (reset : Called kind b k u Reset l w) where
-  abbrev before : View
-  before = kind.view h (b.means s)
-
   -- the timer was stopped, cleared and reset
-  prepared : Drives kind b h s (prepare_asks before) (with_pending false (with_run false before)) l w
-  prepared = record {
+  pub prepared : {h g k l : K} {s t u w : S} → Drives kind b h s (halt_asks (kind.view h (b.means s))) (with_run false (kind.view h (b.means s))) g t
+      → Made kind b g t ClearInterrupt Accepted k u → Called kind b k u Reset l w
+      → Drives kind b h s (prepare_asks (kind.view h (b.means s))) (with_pending false (with_run false (kind.view h (b.means s)))) l w
+  prepared halted cleared reset = record {
     asked = asked-++ kind b halted.asked (asked-++ kind b cleared.asked (asked_one kind b reset));
     view = rw (reset.view, cleared.view, halted.view);
   }
 
+module _ {K S : Type 0} {kind : Kind K} {b : Model S} {h l : K} {s w : S}
+    (ready : Drives kind b h s (prepare_asks (kind.view h (b.means s))) (with_pending false (with_run false (kind.view h (b.means s)))) l w) where
+  abbrev before : View
+  before = kind.view h (b.means s)
+
   module _ (repeat : Bool) where
     own_due_is : kind.own_due l (b.means w) repeat ≡ unloaded_due kind h (b.means s) repeat
-    own_due_is = rw (prepared.asked.handle, prepared.asked.meaning)
+    own_due_is = rw (ready.asked.handle, ready.asked.meaning)
 
     -- where the timer has that repeat already, its due is as it was
     pub due_kept : before.repeat ≡ repeat → unloaded_due kind h (b.means s) repeat ≡ before.due
-    due_kept same = sym own_due_is ∙ kind.same_repeat l (b.means w) repeat (ap (λ (v : View). v.repeat) prepared.view ∙ same) ∙ ap (λ (v : View). v.due) prepared.view
+    due_kept same = sym own_due_is ∙ kind.same_repeat l (b.means w) repeat (ap (λ (v : View). v.repeat) ready.view ∙ same) ∙ ap (λ (v : View). v.due) ready.view
 
   -- its repeat was set and the duration loaded
   module _ {m n : K} {x y : S} {repeat : Bool} {d : Duration} {o : Outcome}
@@ -72,15 +73,15 @@ module _ {K S : Type 0} {kind : Kind K} {b : Model S} {h g k l : K} {s t u w : S
     armed = arm_view repeat (micros d) (unloaded_due kind h (b.means s) repeat) before
 
     ends : o ≡ arm_outcome repeat (micros d) before
-    ends = rw (answer, reloaded.view, prepared.view)
+    ends = rw (answer, reloaded.view, ready.view)
 
     due_already : kind.view n (b.means y) ≡ with_run false armed
-    due_already = rw (loaded.view, reloaded.view, prepared.view, own_due_is repeat)
+    due_already = rw (loaded.view, reloaded.view, ready.view, own_due_is repeat)
 
     -- where the load was accepted the timer is still to be started
     armed_by : {p : K} {z : S} → Asked kind b n y (cond (accepted o) (Start ∷ []) []) p z → kind.view p (b.means z) ≡ with_run (accepted o) armed → Made kind b h s (arming repeat d) o p z
     armed_by last view = made_arming repeat d ends
-        (asked_as kind b (rw ends) (asked-++ kind b prepared.asked (asked_then kind b reloaded (asked_then kind b loaded last))))
+        (asked_as kind b (rw ends) (asked-++ kind b ready.asked (asked_then kind b reloaded (asked_then kind b loaded last))))
         (rw (view, ends))
 
     pub started : {p : K} {z : S} → accepted o ≡ true → Called kind b n y Start p z → Made kind b h s (arming repeat d) o p z

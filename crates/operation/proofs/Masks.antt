@@ -44,7 +44,7 @@ pub bit_changed : (w keep on k : ℕ) → bit (changed w keep on) k ≡ (bit on 
 bit_changed w keep on k = simp (bit_at_or, bit_at_and) (changed_digit (bit_at w k) (bit_at keep k) (bit_at on k) (bit_at-lt w k) (bit_at-lt keep k) (bit_at-lt on k))
 
 -- a bit of a word that other bits were taken from
-bit_without : (w bits k : ℕ) → bit (without w bits) k ≡ (not (bit bits k) && bit w k)
+pub bit_without : (w bits k : ℕ) → bit (without w bits) k ≡ (not (bit bits k) && bit w k)
 bit_without w bits k = simp (bit_at_xor, bit_at_and) (left_digit (bit_at w k) (bit_at bits k) (bit_at-lt w k) (bit_at-lt bits k))
 
 -- of 2 ^ i, bit i alone is set
