@@ -33,14 +33,18 @@ fn read_call(name: &str, argument: Option<&str>) -> Option<Call> {
 // A part, a call and its argument, each set off by blanks.
 fn read_step(line: &str) -> Option<Step> {
     let mut words = line.split_ascii_whitespace();
-    let part = words.next()?;
-    let call = read_call(words.next()?, words.next())?;
-    match (part, words.next()) {
-        ("timer0", None) => Some(Step::Timer(TimerNumber::Zero, call)),
-        ("timer1", None) => Some(Step::Timer(TimerNumber::One, call)),
-        ("alarm0", None) => Some(Step::Alarm(AlarmNumber::Zero, call)),
-        ("alarm1", None) => Some(Step::Alarm(AlarmNumber::One, call)),
-        ("alarm2", None) => Some(Step::Alarm(AlarmNumber::Two, call)),
+    // All words first: a line with one too many is refused before a number in it is read.
+    let (part, name, argument, None) = (words.next()?, words.next()?, words.next(), words.next())
+    else {
+        return None;
+    };
+    let call = read_call(name, argument)?;
+    match part {
+        "timer0" => Some(Step::Timer(TimerNumber::Zero, call)),
+        "timer1" => Some(Step::Timer(TimerNumber::One, call)),
+        "alarm0" => Some(Step::Alarm(AlarmNumber::Zero, call)),
+        "alarm1" => Some(Step::Alarm(AlarmNumber::One, call)),
+        "alarm2" => Some(Step::Alarm(AlarmNumber::Two, call)),
         _ => None,
     }
 }
